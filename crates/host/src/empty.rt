@@ -12,7 +12,7 @@ use super::forms::TypeForm;
 use super::forms::Wrap;
 
 // No type has a form, no container an item, and a trait's supers are the trait alone.
-#[derive(Clone, Copy, Debug)]
+#[derive(Clone, Copy)]
 pub struct EmptyHost;
 
 pub impl Host for EmptyHost as EmptyHostHost {

@@ -1,7 +1,7 @@
 // The closed sets of words in which a host is asked and answers.
 
 // What a type is, as far as a search by name has to know: `TyKind` in eleven words.
-#[derive(Clone, Copy, Debug, PartialEq)]
+#[derive(Clone, Copy, PartialEq)]
 pub enum Form {
     Other,
     // A trait object; the definition is its principal trait.
@@ -19,14 +19,14 @@ pub enum Form {
 }
 
 // What holds an item: an impl or a trait.
-#[derive(Clone, Copy, Debug, PartialEq)]
+#[derive(Clone, Copy, PartialEq)]
 pub enum ContainerKind {
     Impl,
     Trait,
 }
 
 // What an item is.
-#[derive(Clone, Copy, Debug, PartialEq)]
+#[derive(Clone, Copy, PartialEq)]
 pub enum Sort {
     Function,
     Const,
@@ -34,7 +34,7 @@ pub enum Sort {
 }
 
 // By which road a candidate was found, as a host is told it.
-#[derive(Clone, Copy, Debug, PartialEq)]
+#[derive(Clone, Copy, PartialEq)]
 pub enum CandidateClass {
     Impl,
     Object,
@@ -43,7 +43,7 @@ pub enum CandidateClass {
 }
 
 // How a step's type is tried: as it is, behind a new reference, or as a const pointer.
-#[derive(Clone, Copy, Debug, PartialEq)]
+#[derive(Clone, Copy, PartialEq)]
 pub enum Wrap {
     Bare,
     Ref,
@@ -52,14 +52,14 @@ pub enum Wrap {
 }
 
 // Whether a method is called on a value, or a path names an item.
-#[derive(Clone, Copy, Debug, PartialEq)]
+#[derive(Clone, Copy, PartialEq)]
 pub enum Mode {
     MethodCall,
     Path,
 }
 
 // What a host says of a type.
-#[derive(Clone, Copy, Debug, PartialEq)]
+#[derive(Clone, Copy, PartialEq)]
 pub struct TypeForm {
     pub form: Form,
     pub definition: u32,
@@ -67,7 +67,7 @@ pub struct TypeForm {
 }
 
 // What a host says of an item.
-#[derive(Clone, Copy, Debug, PartialEq)]
+#[derive(Clone, Copy, PartialEq)]
 pub struct Item {
     pub name: u32,
     pub sort: Sort,
@@ -75,7 +75,7 @@ pub struct Item {
 }
 
 // Which item: its container, and its place there.
-#[derive(Clone, Copy, Debug, PartialEq)]
+#[derive(Clone, Copy, PartialEq)]
 pub struct ItemId {
     pub kind: ContainerKind,
     pub container: u32,

@@ -37,6 +37,7 @@ pub use numbers::SortNumbered;
 pub use numbers::WrapNumbered;
 pub use questions::Answer;
 pub use questions::Question;
+pub use questions::QuestionPartialEq;
 pub use questions::ask;
 pub use refusals::Refusal;
 

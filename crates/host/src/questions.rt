@@ -8,21 +8,13 @@ use super::forms::Item;
 use super::forms::Mode;
 use super::forms::TypeForm;
 use super::forms::Wrap;
-use crate::forms::CandidateClassDebug;
 use crate::forms::CandidateClassPartialEq;
-use crate::forms::ContainerKindDebug;
 use crate::forms::ContainerKindPartialEq;
-use crate::forms::ItemDebug;
-use crate::forms::ItemPartialEq;
-use crate::forms::ModeDebug;
 use crate::forms::ModePartialEq;
-use crate::forms::TypeFormDebug;
-use crate::forms::TypeFormPartialEq;
-use crate::forms::WrapDebug;
 use crate::forms::WrapPartialEq;
 
 // A question with its arguments. A list is asked by place, from 0.
-#[derive(Clone, Copy, Debug, PartialEq)]
+#[derive(Clone, Copy, PartialEq)]
 pub enum Question {
     Form {
         ty: u32,
@@ -74,7 +66,7 @@ pub enum Question {
     },
 }
 
-#[derive(Clone, Copy, Debug, PartialEq)]
+#[derive(Clone, Copy)]
 pub enum Answer {
     Form(TypeForm),
     // An impl or a trait, or absent.

@@ -17,7 +17,7 @@ use roll::Roll;
 use roll::U32Same;
 
 // How the supertrait law breaks at a trait.
-#[derive(Clone, Copy, Debug, PartialEq)]
+#[derive(Clone, Copy, PartialEq)]
 pub enum Breach {
     // Its supers begin with another trait.
     NotItself { first: u32 },

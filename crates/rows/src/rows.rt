@@ -11,7 +11,7 @@ use host::Question;
 use host::WrapNumbered;
 
 // A row: a question, its seven arguments, and up to three answers. What the question does not use is 0.
-#[derive(Clone, Copy, Debug, PartialEq)]
+#[derive(Clone, Copy, PartialEq)]
 pub struct Row {
     pub question: u32,
     pub a1: u32,

@@ -1,0 +1,3 @@
+pub mod AnyHosts
+pub mod Registries
+pub mod Executing
