@@ -64,16 +64,20 @@ SoFar os i id None = opened-last (take i os) id ≡ None
 SoFar os i id (Some k) = (k < i) × ((d : Opened) → opened-last (take i os) id ≡ Some (getD os k d .host))
 
 pub so-far-found : (os : List Opened) (i id : ℕ) (o : Opened) → i < length os → o ≡ getD os i o → o .id ≡ id → SoFar os (i + 1) id (Some i)
-so-far-found os i id o h is e = (omega arith, λ d.
-    let all : opened-last (take (i + 1) os) id ≡ either (host-at (getD os i o) id) (opened-last (take i os) id) = ap (λ xs. opened-last xs id) (take-more os i o h) ∙ opened-push (take i os) (getD os i o) id in
-    let here : host-at (getD os i o) id ≡ Some (getD os i o .host) = ap (λ b. cond b (Some (getD os i o .host)) None) (eq-eqb (getD os i o .id) id (ap (λ x. x .id) (sym is) ∙ e)) in
-    all ∙ ap (λ x. either x (opened-last (take i os) id)) here ∙ ap (λ x. Some (x .host)) (getD-default os i o d h))
+so-far-found os i id o h is e = (
+  omega arith,
+  λ d.
+      let all : opened-last (take (i + 1) os) id ≡ either (host-at (getD os i o) id) (opened-last (take i os) id) = ap (λ xs. opened-last xs id) (take-more os i o h) ∙ opened-push (take i os) (getD os i o) id in
+      let here : host-at (getD os i o) id ≡ Some (getD os i o .host) = ap (λ b. cond b (Some (getD os i o .host)) None) (eq-eqb (getD os i o .id) id (ap (λ x. x .id) (sym is) ∙ e)) in
+      all ∙ ap (λ x. either x (opened-last (take i os) id)) here ∙ ap (λ x. Some (x .host)) (getD-default os i o d h),
+)
 
 pub so-far-passed : (os : List Opened) (i id : ℕ) (o : Opened) (found : Option ℕ) → i < length os → o ≡ getD os i o → (o .id ≡ id → ⊥) → SoFar os i id found → SoFar os (i + 1) id found
 so-far-passed os i id o found h is n s = step found s
   where
     same : opened-last (take (i + 1) os) id ≡ opened-last (take i os) id
     same = ap (λ xs. opened-last xs id) (take-more os i o h) ∙ opened-push (take i os) (getD os i o) id ∙ ap (λ b. either (cond b (Some (getD os i o .host)) None) (opened-last (take i os) id)) (ne-eqb (getD os i o .id) id (λ e. n (ap (λ x. x .id) is ∙ e)))
+
     step : (f : Option ℕ) → SoFar os i id f → SoFar os (i + 1) id f
     step None t = same ∙ t
     step (Some k) t = (let l = t .0 in omega arith, λ d. same ∙ t .1 d)

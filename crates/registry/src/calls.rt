@@ -59,7 +59,12 @@ fn rows_of(heap: Global, table: &[TableRow], id: u32) -> Result<Vec<Row>, AllocE
 }
 
 // A host of that kind over the rows given for it.
-fn fresh_host(heap: Global, kind: HostKind, table: &[TableRow], id: u32) -> Result<Result<AnyHost, Refusal>, AllocError>
+fn fresh_host(
+    heap: Global,
+    kind: HostKind,
+    table: &[TableRow],
+    id: u32,
+) -> Result<Result<AnyHost, Refusal>, AllocError>
     ensures { λ r. ⌜ made r (Fresh kind (rows-of (now (table .entry)) id)) ⌝ }
 {
     match kind {

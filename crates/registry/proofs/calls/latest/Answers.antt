@@ -14,8 +14,8 @@ loop-at-again c =
     let i = c .loop-at .at in
     let o = c .index-opened-at .result in
     elim (c .if-host-id .came) [
-      then-host-id w ↦ subst (SoFar os (i + 1) (c .args .id)) (sym (w .found-is)) (so-far-found os i (c .args .id) o (c .loop-at-test .taken) (c .index-opened-at .is) (w .if-host-id .taken))
-    | else-host-id w ↦ subst (SoFar os (i + 1) (c .args .id)) (sym (w .found-is)) (so-far-passed os i (c .args .id) o (c .loop-at .found) (c .loop-at-test .taken) (c .index-opened-at .is) (w .if-host-id .left) (c .loop-at .inv))
+      | then-host-id w ↦ subst (SoFar os (i + 1) (c .args .id)) (sym (w .found-is)) (so-far-found os i (c .args .id) o (c .loop-at-test .taken) (c .index-opened-at .is) (w .if-host-id .taken))
+      | else-host-id w ↦ subst (SoFar os (i + 1) (c .args .id)) (sym (w .found-is)) (so-far-passed os i (c .args .id) o (c .loop-at .found) (c .loop-at-test .taken) (c .index-opened-at .is) (w .if-host-id .left) (c .loop-at .inv))
     ]
 
 pub returns : need.returns

@@ -19,11 +19,11 @@ loop-line-again c =
     let rs = vec-items (c .loop-line .rows) in
     let all = rows-of ls id in
     elim (c .if-line-id .came) [
-      then-line-id·in-Continue-push w ↦
-        let pushed : vec-items (w .push .last .self) ≡ rs ++ getD ls i no-line .row ∷ [] = w .push .ensures .items ∙ ap (λ b. cond b (rs ++ getD ls i no-line .row ∷ []) rs) (ap isOk (w .in-Continue-push .was tt)) in
-        gathered-row ls id i rs all (c .loop-line-test .taken) (w .if-line-id .taken) (c .loop-line .inv) ∙ ap (λ (xs : List Row). xs ++ rows-of (drop (i + 1) ls) id) (sym (ap vec-items (w .rows-is) ∙ pushed))
-    | else-line-id w ↦
-        passed-row ls id i rs all (c .loop-line-test .taken) (w .if-line-id .left) (c .loop-line .inv) ∙ ap (λ (xs : List Row). xs ++ rows-of (drop (i + 1) ls) id) (sym (ap vec-items (w .rows-is)))
+      | then-line-id·in-Continue-push w ↦
+          let pushed : vec-items (w .push .last .self) ≡ rs ++ getD ls i no-line .row ∷ [] = w .push .ensures .items ∙ ap (λ b. cond b (rs ++ getD ls i no-line .row ∷ []) rs) (ap isOk (w .in-Continue-push .was tt)) in
+          gathered-row ls id i rs all (c .loop-line-test .taken) (w .if-line-id .taken) (c .loop-line .inv) ∙ ap (λ (xs : List Row). xs ++ rows-of (drop (i + 1) ls) id) (sym (ap vec-items (w .rows-is) ∙ pushed))
+      | else-line-id w ↦
+          passed-row ls id i rs all (c .loop-line-test .taken) (w .if-line-id .left) (c .loop-line .inv) ∙ ap (λ (xs : List Row). xs ++ rows-of (drop (i + 1) ls) id) (sym (ap vec-items (w .rows-is)))
     ]
 
 pub returns : need.returns

@@ -1,0 +1,5 @@
+pub mod Firsts
+pub mod Subjects
+pub mod Containers
+pub mod Lists
+pub mod Carriers
