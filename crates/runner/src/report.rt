@@ -1,4 +1,8 @@
 // Vetting a table as a loader does before it is used.
+ghost use Rattle.std.specs.Orderings.{When};
+ghost use Rattle.std.specs.Vec.{made};
+ghost use Rattle.host.specs.Law.{SupertraitLaw};
+ghost use Rattle.rows.specs.Tables.{tabled};
 use super::printing::Numbers;
 use super::printing::NumbersDisplay;
 use host::ContainerKind;
@@ -189,7 +193,9 @@ fn print_names<'a>(
 }
 
 // Opens a table and prints its inventory, or says where the supertrait law breaks; answers whether it can be used.
-pub fn vet(rt: &LibcRuntime, rows: &[Row], labels: Labels<'_>) -> Result<bool, AnyError> {
+pub fn vet(rt: &LibcRuntime, rows: &[Row], labels: Labels<'_>) -> Result<bool, AnyError>
+    ensures { λ r. ⌜ made r (λ usable. When usable (SupertraitLaw (tabled (now (rows .entry)))) (SupertraitLaw (tabled (now (rows .entry))) → ⊥)) ⌝ }
+{
     let heap = rt.alloc();
     let types = subjects(heap, rows, Subject::Type)?;
     let traits = subjects(heap, rows, Subject::Trait)?;

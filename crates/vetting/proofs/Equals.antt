@@ -1,11 +1,10 @@
 -- Tests for equal numbers and containers, and kinds by number.
 use mathlib.Core.Path.{_≡_, refl, sym, ap, _∙_}
-use mathlib.Core.Bool.{true, cond}
+use mathlib.Core.Bool.{cond}
 use mathlib.Core.Logic.{_≢_}
-use Prim.Native.Nat.{ℕ, _≤_}
+use Prim.Native.Nat.{ℕ}
 use native.Mathlib.Omega.{arith}
 use lib.Dec.{eqb}
-use lib.ListN.{length}
 use Rattle.std.specs.Options.{mapped}
 use Rattle.std.specs.shelf.Maps.{nth}
 use Rattle.std.specs.declared.option.Option.{Option}
@@ -16,7 +15,6 @@ use Rattle.host.specs.Numbers.{Reads, container-number}
 use Rattle.host.specs.declared.forms.ContainerKind.{ContainerKind}
 use Rattle.host.specs.declared.forms.ContainerKind.the-variants.{Impl, Trait}
 use Rattle.rows.specs.declared.rows.Row.{Row}
-use Rattle.vetting.specs.declared.holders.Container.{Container}
 use Rattle.vetting.specs.Containers.{same-container, kinds, numbered, container-in}
 use Rattle.vetting.proofs.Keeping.{Exact}
 

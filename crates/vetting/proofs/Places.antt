@@ -1,5 +1,5 @@
 -- A list that is asked place by place.
-use mathlib.Core.Path.{_≡_, refl, sym, ap, _∙_}
+use mathlib.Core.Path.{_≡_, sym, ap, _∙_}
 use mathlib.Core.Bool.{Bool, true, false, cond}
 use mathlib.Core.List.{List, [], _∷_, _++_, append-nil, append-assoc}
 use Prim.Native.Nat.{ℕ, suc, _+_, _-_, _<_, _≤_}
@@ -54,11 +54,11 @@ item-step : (k : Container) (n p : ℕ) (f : ℕ → Option Item) (o : Option It
 item-step k n p f o i whole found b h is e t inv =
     inv ∙ ap (λ l. found ++ named-from k n p l) (rest-more f p o i h is e) ∙ ap (λ t. found ++ cond t (id-at k p ∷ named-from k n (p + 1) (rest-from f (p + 1))) (named-from k n (p + 1) (rest-from f (p + 1)))) t
 
--- an item that carries the name, and one that does not
-pub item-more : (k : Container) (n p : ℕ) (f : ℕ → Option Item) (o : Option Item) (i : Item) (whole found pushed after : List ItemId) → p < 64 → o ≡ f p → o ≡ Some i → i .name ≡ n → whole ≡ found ++ named-from k n p (rest-from f p) → pushed ≡ found ++ id-at k p ∷ [] → after ≡ pushed → whole ≡ after ++ named-from k n (p + 1) (rest-from f (p + 1))
-item-more k n p f o i whole found pushed after h is e t inv one same =
-    push-more whole found after (named-from k n (p + 1) (rest-from f (p + 1))) (id-at k p) (item-step k n p f o i whole found true h is e (eq-eqb (i .name) n t) inv) (same ∙ one)
+-- an item that carries the name, and one that does not; what was found is read off a value of any type
+pub item-more : {V : Type 0} (items : V → List ItemId) (k : Container) (n p : ℕ) (f : ℕ → Option Item) (o : Option Item) (i : Item) (whole : List ItemId) (found pushed after : V) → p < 64 → o ≡ f p → o ≡ Some i → i .name ≡ n → whole ≡ items found ++ named-from k n p (rest-from f p) → items pushed ≡ items found ++ id-at k p ∷ [] → after ≡ pushed → whole ≡ items after ++ named-from k n (p + 1) (rest-from f (p + 1))
+item-more items k n p f o i whole found pushed after h is e t inv one same =
+    push-more whole (items found) (items after) (named-from k n (p + 1) (rest-from f (p + 1))) (id-at k p) (item-step k n p f o i whole (items found) true h is e (eq-eqb (i .name) n t) inv) (ap items same ∙ one)
 
-pub item-other : (k : Container) (n p : ℕ) (f : ℕ → Option Item) (o : Option Item) (i : Item) (whole found after : List ItemId) → p < 64 → o ≡ f p → o ≡ Some i → (i .name ≡ n → ⊥) → whole ≡ found ++ named-from k n p (rest-from f p) → after ≡ found → whole ≡ after ++ named-from k n (p + 1) (rest-from f (p + 1))
-item-other k n p f o i whole found after h is e t inv same =
-    item-step k n p f o i whole found false h is e (ne-eqb (i .name) n t) inv ∙ ap (λ l. l ++ named-from k n (p + 1) (rest-from f (p + 1))) (sym same)
+pub item-other : {V : Type 0} (items : V → List ItemId) (k : Container) (n p : ℕ) (f : ℕ → Option Item) (o : Option Item) (i : Item) (whole : List ItemId) (found after : V) → p < 64 → o ≡ f p → o ≡ Some i → (i .name ≡ n → ⊥) → whole ≡ items found ++ named-from k n p (rest-from f p) → after ≡ found → whole ≡ items after ++ named-from k n (p + 1) (rest-from f (p + 1))
+item-other items k n p f o i whole found after h is e t inv same =
+    item-step k n p f o i whole (items found) false h is e (ne-eqb (i .name) n t) inv ∙ ap (λ v. items v ++ named-from k n (p + 1) (rest-from f (p + 1))) (sym same)

@@ -6,7 +6,7 @@ use Rattle.std.specs.Options.{mapped}
 use Rattle.std.specs.Vec.{listOf}
 use Rattle.std.specs.shelf.Maps.{nth}
 use Rattle.std.specs.declared.option.Option.{Option}
-use Rattle.std.specs.declared.option.Option.the-variants.{Some, None}
+use Rattle.std.specs.declared.option.Option.the-variants.{None}
 use Rattle.host.specs.Numbers.{container-number}
 use Rattle.host.specs.declared.forms.ContainerKind.{ContainerKind}
 use Rattle.host.specs.declared.forms.ContainerKind.the-variants.{Impl, Trait}

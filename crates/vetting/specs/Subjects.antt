@@ -4,7 +4,6 @@ use mathlib.Core.List.{List, [], _∷_, _++_}
 use Prim.Native.Nat.{ℕ}
 use lib.Dec.{eqb}
 use Rattle.roll.specs.Equality.{on}
-use Rattle.host.specs.Numbers.{container-number}
 use Rattle.rows.specs.declared.rows.Row.{Row}
 use Rattle.vetting.specs.declared.speaking.Subject.{Subject}
 use Rattle.vetting.specs.declared.speaking.Subject.the-variants as about

@@ -1,4 +1,4 @@
-use mathlib.Core.Path.{refl, ap}
+use mathlib.Core.Path.{refl}
 use mathlib.Core.List.{_++_}
 use Rattle.std.specs.Of.Vec.{vec-items}
 use Rattle.vetting.specs.Carriers.{carried, named-from}
@@ -25,11 +25,11 @@ loop-place-again g c =
     let p = c .loop-place .place in
     let i = c .in-Some .item in
     let whole = vec-items (c .args .found .now) ++ carried m n k in
-    let found = vec-items (c .loop-place .found) in
-    let after = vec-items (c .if-item-name .found) in
+    let found = c .loop-place .found in
+    let after = c .if-item-name .found in
     elim (c .if-item-name .came) [
-      | then-item-name·in-Continue-push w ↦ item-more k n p f (c .item .result) i whole found (vec-items (w .push .last .self)) after (c .loop-place-test .taken) (c .item .ensures) (c .in-Some .is) (w .if-item-name .taken) (c .loop-place .inv) (w .in-Continue-push .ensures tt .items) (ap vec-items (w .found-is))
-      | else-item-name w ↦ item-other k n p f (c .item .result) i whole found after (c .loop-place-test .taken) (c .item .ensures) (c .in-Some .is) (w .if-item-name .left) (c .loop-place .inv) (ap vec-items (w .found-is))
+      | then-item-name·in-Continue-push w ↦ item-more vec-items k n p f (c .item .result) i whole found (w .push .last .self) after (c .loop-place-test .taken) (c .item .ensures) (c .in-Some .is) (w .if-item-name .taken) (c .loop-place .inv) (w .in-Continue-push .ensures tt .items) (w .found-is)
+      | else-item-name w ↦ item-other vec-items k n p f (c .item .result) i whole found after (c .loop-place-test .taken) (c .item .ensures) (c .in-Some .is) (w .if-item-name .left) (c .loop-place .inv) (w .found-is)
     ]
 
 pub returns : need.returns

@@ -1,4 +1,3 @@
-use mathlib.Core.Path.{_≡_}
 use lib.Dec.{eqb}
 use Rattle.std.specs.Of.Vec.{vec-items}
 use Rattle.rows.proofs.Answering.{no-row}
