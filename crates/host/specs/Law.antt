@@ -11,7 +11,7 @@ use Rattle.host.specs.declared.questions.Question.{Question}
 use Rattle.host.specs.Meaning.{Meaning, _∈_, supers-of}
 use Rattle.host.specs.Questions.{answer, askable}
 
--- The empty host: no type has a form, no container an item, and a trait's supers are itself.
+-- The empty host: every type is of form `Other`, no container has an item, and a trait's supers are the trait alone.
 abbrev pub empty-host : Meaning
 empty-host = record {
   form = λ t. record { form = Other; definition = 0; «boxed_slice» = false };

@@ -11,7 +11,7 @@ use super::forms::Mode;
 use super::forms::TypeForm;
 use super::forms::Wrap;
 
-// No type has a form, no container an item, and a trait's supers are the trait alone.
+// Every type is of form `Other`, no container has an item, and a trait's supers are the trait alone.
 #[derive(Clone, Copy)]
 pub struct EmptyHost;
 

@@ -1,6 +1,6 @@
 // The closed sets of words in which a host is asked and answers.
 
-// What a type is, as far as a search by name has to know: `TyKind` in eleven words.
+// What a type is, as far as a search by name has to know.
 #[derive(Clone, Copy, PartialEq)]
 pub enum Form {
     Other,
@@ -33,7 +33,7 @@ pub enum Sort {
     Alias,
 }
 
-// By which road a candidate was found, as a host is told it.
+// How a candidate was found: in an impl, or in a trait by way of an object, the traits in scope, or a bound.
 #[derive(Clone, Copy, PartialEq)]
 pub enum CandidateClass {
     Impl,

@@ -1,4 +1,4 @@
-// A lent host, so that several resolvers can stand over one.
+// A lent host, so that several users can share one.
 ghost use mathlib.Core.Path.{_≡_};
 ghost use denote.Ref.{now};
 use super::Host;

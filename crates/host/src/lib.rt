@@ -42,7 +42,7 @@ pub use questions::ask;
 pub use refusals::Refusal;
 
 // A host answers for the compiler's tables: ten questions about types, impls, traits and items, each by number. Asking
-// changes nothing. A question with a place asks for one entry of a list, from place 0 on; past the end it is absent.
+// changes nothing. Questions 2 to 6 ask for one entry of a list, by its place from 0 on; past the end it is absent.
 pub trait Host {
     // All answers.
     ghost meaning: { Self → Meaning };
@@ -77,7 +77,7 @@ pub trait Host {
     fn visible(&self, kind: ContainerKind, container: u32, place: u32) -> bool
         ensures { λ r. ⌜ r ≡ meaning (now (self .entry)) .visible kind container place ⌝ };
 
-    // 8: whether a trait's methods pass over arrays, and over boxed slices, in the older editions.
+    // 8: whether older editions pass over a trait's methods on arrays, and on boxed slices.
     fn skips(&self, tr: u32) -> (bool, bool)
         ensures { λ r. ⌜ r ≡ meaning (now (self .entry)) .skips tr ⌝ };
 

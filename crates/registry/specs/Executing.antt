@@ -15,20 +15,23 @@ use Rattle.registry.specs.declared.executing.Reply.the-variants.{Silent, Opene
 use Rattle.registry.specs.declared.troubles.Trouble.{Trouble}
 use Rattle.registry.specs.Registries.{State, Told, declare-wrong, with-host, table-wrong, begun-last, with-row, Opens, kind-of, opened-last, asked-of}
 
--- nothing to say, told by what is wrong, and the state where it went well
+-- A command that answers nothing: it is told by what is wrong, and `done` is the state where nothing is.
 abbrev pub Quietly : Option Trouble → State → State → Result Reply Trouble → State → Type 0
 Quietly wrong done s r s′ = Told wrong r × (s′ ≡ cond (isOk r) done s) × ((a : Reply) → r ≡ Ok a → a ≡ Silent)
 
+-- An opening, whose answer is passed on.
 abbrev pub OpensWith : State → ℕ → Result Reply Trouble → State → Type 0
 OpensWith s id (Ok (Opened r)) s′ = Opens s id (Ok r) s′
 OpensWith s id (Ok Silent) s′ = ⊥
 OpensWith s id (Ok (Answered a)) s′ = ⊥
 OpensWith s id (Err t) s′ = Opens s id (Err t) s′
 
+-- an answer passed on, in a reply
 abbrev pub answered : {A : Type 0} → Result A Trouble → (A → Reply) → Result Reply Trouble
 answered (Ok a) f = Ok (f a)
 answered (Err t) f = Err t
 
+-- Each command does what the call of its name does.
 abbrev pub Executes : State → Command → Result Reply Trouble → State → Type 0
 Executes s command.Nothing r s′ = (r ≡ Ok Silent) × (s′ ≡ s)
 Executes s (command.Host id k) r s′ = Quietly (declare-wrong s id) (with-host s id k) s r s′

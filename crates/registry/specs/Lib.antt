@@ -1,3 +1,4 @@
 pub mod AnyHosts
 pub mod Registries
 pub mod Executing
+pub mod Reasons

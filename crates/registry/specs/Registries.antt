@@ -62,10 +62,10 @@ opened-last (o ∷ os) id = either (opened-last os id) (cond (eqb (o .id) id) (S
 abbrev pub begun-last : List Declared → Option Declared
 begun-last ds = nth ds (length ds - 1)
 
--- An answer told by what is wrong, if anything is; want of memory may come besides, and then nothing has changed.
+-- An answer told by what is wrong, if anything is; only where nothing is, memory may be wanting.
 abbrev pub Told : {X : Type 0} → Option Trouble → Result X Trouble → Type 0
 Told wrong (Ok x) = wrong ≡ None
-Told wrong (Err t) = (wrong ≡ Some t) ⊎ (t ≡ Memory)
+Told wrong (Err t) = (wrong ≡ Some t) ⊎ ((wrong ≡ None) × (t ≡ Memory))
 
 -- A host is begun where its identifier is new.
 abbrev pub declare-wrong : State → ℕ → Option Trouble
@@ -97,11 +97,15 @@ abbrev pub Fresh : HostKind → List Row → Result AnyHost Refusal → Type 0
 Fresh k rs (Ok h) = any-meaning h ≡ meaning-of k rs
 Fresh k rs (Err e) = (k ≡ kind.Tabled) × (e ≡ UnlawfulSupertraits) × ((t : ℕ) × (t < 2 ^ 32) × (SupersLawful (tabled rs) t → ⊥))
 
+-- only a host that was declared can be opened
+abbrev pub open-wrong : State → ℕ → Option Trouble
+open-wrong s id = cond (isSome (kind-of (s .declared) id)) None (Some NotDeclared)
+
 -- Opening makes a host anew from the tables as they stand; refused, it leaves all as it was.
 abbrev pub Opens : State → ℕ → Result (Result (Unit {0}) Refusal) Trouble → State → Type 0
 Opens s id (Ok (Ok u)) s′ = (k : HostKind) × (h : AnyHost) × (kind-of (s .declared) id ≡ Some k) × Fresh k (rows-of (s .table) id) (Ok h) × (s′ ≡ record { declared = s .declared; table = s .table; opened = s .opened ++ record { id = id; host = h } ∷ [] })
 Opens s id (Ok (Err e)) s′ = (k : HostKind) × (kind-of (s .declared) id ≡ Some k) × Fresh k (rows-of (s .table) id) (Err e) × (s′ ≡ s)
-Opens s id (Err t) s′ = (((t ≡ NotDeclared) × (kind-of (s .declared) id ≡ None)) ⊎ (t ≡ Memory)) × (s′ ≡ s)
+Opens s id (Err t) s′ = Told {X = Unit {0}} (open-wrong s id) (Err t) × (s′ ≡ s)
 
 -- A question is answered by the host that was opened last.
 abbrev pub asked-of : Option HostKind → Option AnyHost → Question → Result Answer Trouble

@@ -1,19 +1,23 @@
 // Why a command could not be carried out.
+ghost use Rattle.std.specs.declared.option.Option.the-variants.{Some};
+ghost use Rattle.registry.specs.Reasons.{reason};
 use std::fmt;
 
 #[derive(Clone, Copy, PartialEq)]
 pub enum Trouble {
     DeclaredTwice,
     NotDeclared,
-    // A table line before any host.
+    // A row before any host.
     NoHostBegun,
-    // A table line that the host begun last has no table for.
+    // A row where the host begun last takes none.
     NoSuchTable,
     NotOpen,
     Memory,
 }
 
 pub impl fmt::Display for Trouble as TroubleDisplay {
+    ghost shown = { λ trouble. Some (reason trouble) };
+
     fn fmt<W: fmt::Write>(&self, f: &mut fmt::Formatter<W>) -> fmt::Result {
         match *self {
             Trouble::DeclaredTwice => write!(f, "the identifier is declared already"),

@@ -1,8 +1,8 @@
--- How the supertrait law breaks at a trait, and what opening a table answers.
+-- How the supertrait law breaks at a trait.
 use mathlib.Core.Path.{_≡_}
 use mathlib.Core.Bool.{Bool, true, false, cond, _&&_, not}
 use mathlib.Core.List.{List, [], _∷_}
-use Prim.Native.Nat.{ℕ, _^_, _<_}
+use Prim.Native.Nat.{ℕ}
 use lib.Dec.{eqb}
 use Rattle.std.specs.declared.option.Option.{Option}
 use Rattle.std.specs.declared.option.Option.the-variants.{Some, None}
@@ -26,6 +26,7 @@ abbrev pub first-some : {X Y : Type 0} → (X → Option Y) → List X → Optio
 first-some f [] = None
 first-some f (x ∷ xs) = either (f x) (first-some f xs)
 
+-- the beginning; rows never leave a trait without supers, so there is nothing to tell of an empty list
 abbrev pub beginning : ℕ → List ℕ → Option Breach
 beginning t [] = None
 beginning t (x ∷ xs) = cond (eqb x t) None (Some (NotItself x))

@@ -12,10 +12,11 @@ use Rattle.host.specs.declared.questions.Question.the-variants as asks
 use Rattle.rows.specs.declared.rows.Row.{Row}
 use Rattle.rows.specs.declared.rows.Key.{Key}
 
--- a question's number and seven arguments, of which those that it does not use are 0
+-- a question's number and seven arguments
 abbrev pub key : ℕ → ℕ → ℕ → ℕ → ℕ → ℕ → ℕ → ℕ → Key
 key q a b c d e f g = record { question = q; a1 = a; a2 = b; a3 = c; a4 = d; a5 = e; a6 = f; a7 = g }
 
+-- the key of a question: what it does not use is 0
 abbrev pub key-of : Question → Key
 key-of (asks.Form t) = key 1 t 0 0 0 0 0 0
 key-of (asks.Own t p) = key 2 t p 0 0 0 0 0

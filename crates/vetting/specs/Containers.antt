@@ -1,4 +1,4 @@
--- The containers that rows speak of.
+-- The containers of which rows of question 4 give items.
 use mathlib.Core.Bool.{Bool, cond, _&&_}
 use mathlib.Core.List.{List, [], _∷_}
 use lib.Dec.{eqb}
