@@ -8,6 +8,7 @@ mod shape;
 #[cfg(test)]
 mod tests;
 
+pub use methods::holds;
 pub use same::Same;
 pub use same::U32Same;
 pub use shape::Roll;

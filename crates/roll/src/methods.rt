@@ -73,7 +73,7 @@ impl<'a, T: Same + Drop> Roll<'a, T> {
 }
 
 // Whether an element equal to `x` is in the slice.
-fn holds<T: Same>(ys: &[T], x: &T) -> bool
+pub fn holds<T: Same>(ys: &[T], x: &T) -> bool
     ensures { λ r. ⌜ Decides r (Among (T·Same .same) (now (ys .entry)) (now (x .entry))) ⌝ }
 {
     for y in ys {

@@ -2,7 +2,7 @@
 ghost use mathlib.Core.Path.{_≡_};
 ghost use mathlib.Core.Bool.{true};
 ghost use Rattle.host.specs.Questions.{askable};
-ghost use Rattle.rows.specs.Rows.{key-of, fits, first-row, row-for};
+ghost use Rattle.rows.specs.Rows.{key, key-of, fits, first-row, row-for};
 use host::CandidateClassNumbered;
 use host::ContainerKindNumbered;
 use host::ModeNumbered;
@@ -39,16 +39,21 @@ pub(crate) struct Key {
     pub(crate) a7: u32,
 }
 
-const UNUSED: Key = Key {
-    question: 0,
-    a1: 0,
-    a2: 0,
-    a3: 0,
-    a4: 0,
-    a5: 0,
-    a6: 0,
-    a7: 0,
-};
+// A key with at most three arguments; the others are not used.
+fn short_key(question: u32, a1: u32, a2: u32, a3: u32) -> Key
+    ensures { λ r. ⌜ r ≡ key question a1 a2 a3 0 0 0 0 ⌝ }
+{
+    Key {
+        question,
+        a1,
+        a2,
+        a3,
+        a4: 0,
+        a5: 0,
+        a6: 0,
+        a7: 0,
+    }
+}
 
 // The key of a question, whose numbers have 32 bits.
 pub(crate) fn key_of(question: Question) -> Key
@@ -56,66 +61,22 @@ pub(crate) fn key_of(question: Question) -> Key
     ensures asked { λ _. ⌜ askable question ≡ true ⌝ }
 {
     match question {
-        Question::Form { ty } => Key {
-            question: 1,
-            a1: ty,
-            ..UNUSED
-        },
-        Question::Own { ty, place } => Key {
-            question: 2,
-            a1: ty,
-            a2: place,
-            ..UNUSED
-        },
-        Question::Stray { ty, place } => Key {
-            question: 3,
-            a1: ty,
-            a2: place,
-            ..UNUSED
-        },
+        Question::Form { ty } => short_key(1, ty, 0, 0),
+        Question::Own { ty, place } => short_key(2, ty, place, 0),
+        Question::Stray { ty, place } => short_key(3, ty, place, 0),
         Question::Item {
             kind,
             container,
             place,
-        } => {
-            Key {
-                question: 4,
-                a1: kind.number(),
-                a2: container,
-                a3: place,
-                ..UNUSED
-            }
-        }
-        Question::Bound { ty, place } => Key {
-            question: 5,
-            a1: ty,
-            a2: place,
-            ..UNUSED
-        },
-        Question::Supers { tr, place } => Key {
-            question: 6,
-            a1: tr,
-            a2: place,
-            ..UNUSED
-        },
+        } => short_key(4, kind.number(), container, place),
+        Question::Bound { ty, place } => short_key(5, ty, place, 0),
+        Question::Supers { tr, place } => short_key(6, tr, place, 0),
         Question::Visible {
             kind,
             container,
             place,
-        } => {
-            Key {
-                question: 7,
-                a1: kind.number(),
-                a2: container,
-                a3: place,
-                ..UNUSED
-            }
-        }
-        Question::Skips { tr } => Key {
-            question: 8,
-            a1: tr,
-            ..UNUSED
-        },
+        } => short_key(7, kind.number(), container, place),
+        Question::Skips { tr } => short_key(8, tr, 0, 0),
         Question::Applies {
             class,
             container,
@@ -141,13 +102,9 @@ pub(crate) fn key_of(question: Question) -> Key
             wrap,
             mode,
         } => Key {
-            question: 10,
-            a1: tr,
-            a2: place,
-            a3: ty,
             a4: wrap.number(),
             a5: mode.number(),
-            ..UNUSED
+            ..short_key(10, tr, place, ty)
         },
     }
 }
