@@ -1,5 +1,7 @@
 // The program: plays the script that its argument names, `-` for standard input; with no argument, vets the tables of
 // one harbour before a season.
+#![tactic(auto)]
+
 mod scenario;
 
 use anyhow::anyhow;

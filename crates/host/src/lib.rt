@@ -1,4 +1,6 @@
 // What a method search asks of a host, and what a host owes.
+#![tactic(auto)]
+
 ghost use Rattle.std.specs.Prelude.{◌≡◌};
 ghost use Rattle.host.specs.Law.{Lawful};
 ghost use Rattle.host.specs.Meaning.{Meaning};

@@ -1,5 +1,7 @@
 // The types of a method search by name, as in rust-analyzer's method resolution: what is asked, what is considered on the
 // way, and what is answered. The definitions of the answer stand in specs/, the search itself in the crates above.
+#![tactic(auto)]
+
 mod same;
 mod theorems;
 

@@ -1,5 +1,6 @@
 // The second half of a search: where candidates are tried, what a list of them decides, and the pick. As in rust-analyzer's
 // `probe.rs`, each step is tried by value, by an autoref, and as a const pointer.
+#![tactic(auto)]
 
 mod applying;
 mod considering;

@@ -1,4 +1,6 @@
 // The hosts that a script declares: their tables, and which of them are open.
+#![tactic(auto)]
+
 mod any;
 mod calls;
 mod entries;

@@ -1,4 +1,6 @@
 // Tables of rows: which row answers a question, what it says, and whether the supertrait law holds.
+#![tactic(auto)]
+
 mod answers;
 mod laws;
 mod lists;

@@ -1,4 +1,6 @@
 // What a line of a script says.
+#![tactic(auto)]
+
 ghost use Rattle.std.specs.Prelude.{◌≡◌};
 ghost use Rattle.script.specs.Grammar.{texts, host_kind, host_line, row_line, open_line, ask_line, parsed};
 

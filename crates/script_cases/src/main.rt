@@ -1,4 +1,6 @@
 // Plays the script on standard input, and says at the end how many lines were in error: what it prints is compared.
+#![tactic(auto)]
+
 use runner::play;
 use std::io::{BufRead, BufReader};
 

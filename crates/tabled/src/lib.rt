@@ -1,4 +1,6 @@
 // The tabled host: a host that answers from rows.
+#![tactic(auto)]
+
 mod hosting;
 mod table;
 

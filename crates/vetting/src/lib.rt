@@ -1,5 +1,7 @@
 // What a loader wants to know of a table before it is used: which types, traits and names its rows speak of, the lists
 // behind the list questions, and which items carry a name.
+#![tactic(auto)]
+
 mod carrying;
 mod holders;
 mod listing;
