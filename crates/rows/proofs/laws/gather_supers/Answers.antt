@@ -16,11 +16,11 @@ supers_in rs t os a g = sym (supers_are rs t ∙ ap (map (λ r. r.r1)) (entries_
 pub loop-slot-init : goal.loop-slot-init
 loop-slot-init c = (refl, numbers_start (contents c.args.list.now) c.gather-slots.result c.requires.empty, omega (arith, c.requires.room))
 
-pub returns-in-default : goal.returns-in-default
-returns-in-default c =
+pub returns-in_default : goal.returns-in_default
+returns-in_default c =
     record {
       lent = c.loop-slot.invariant.0;
-      supers = numbers_gap (contents c.loop-slot.list) c.gather-slots.result c.loop-slot.slot-index (numbers_in c.gather-slots.result) (omega (arith, c.gather-slots.ensures.gathered.size)) c.in-default.is c.loop-slot.invariant.1 ∙ supers_in c.args.rows.now c.args.tr c.gather-slots.result c.gather-slots.ensures.asked c.gather-slots.ensures.gathered;
+      supers = numbers_gap (contents c.loop-slot.list) c.gather-slots.result c.loop-slot.slot-index (numbers_in c.gather-slots.result) (omega (arith, c.gather-slots.ensures.gathered.size)) c.in_default.is c.loop-slot.invariant.1 ∙ supers_in c.args.rows.now c.args.tr c.gather-slots.result c.gather-slots.ensures.asked c.gather-slots.ensures.gathered;
     }
 
 pub loop-slot-preserved : goal.loop-slot-preserved

@@ -10,15 +10,15 @@ returns-then-place-ge-LONGEST c = sym (entry_past _ c.args.place c.if-place-ge-L
 pub loop-before-init : goal.loop-before-init
 loop-before-init c = λ k h. absurd (omega arith)
 
-pub returns-then-is-none : goal.returns-then-is-none
-returns-then-is-none c =
+pub returns-then-is_none : goal.returns-then-is_none
+returns-then-is_none c =
     let os = c.gather-slots.result in
     let are = entries_are c.args.listing c.args.rows.now os c.gather-slots.ensures.asked c.gather-slots.ensures.gathered in
-    let gap = not_some (get_or os c.loop-before.before None) c.if-is-none.ensures in
+    let gap = not_some (get_or os c.loop-before.before None) c.if-is_none.ensures in
     sym (ap (λ xs. slice_get xs c.args.place) are ∙ front_gap os c.loop-before.before c.args.place (omega arith) gap)
 
 pub loop-before-preserved : goal.loop-before-preserved
-loop-before-preserved c = below_more _ _ c.loop-before.invariant c.if-is-none.ensures
+loop-before-preserved c = below_more _ _ c.loop-before.invariant c.if-is_none.ensures
 
 pub returns : goal.returns
 returns c =

@@ -16,7 +16,7 @@ loop-row-preserved c =
     let i = c.loop-row.row-index in
     let l = c.args.listing in
     let row = get_or rows i no_row in
-    let first : c.key-of-first.result.question ≡ (key_of (at l 0)).question = ap (λ k. k.question) (c.key-of-first.ensures.value ∙ ap key_of c.at.ensures.value) in
+    let first : c.key_of-first.result.question ≡ (key_of (at l 0)).question = ap (λ k. k.question) (c.key_of-first.ensures.value ∙ ap key_of c.at.ensures.value) in
     let noted : Noted l row c.loop-row.slots c.if-row-first.slots = elim c.if-row-first.branch [
       | then-row-first w ↦ subst (λ os. Noted l row c.loop-row.slots os) (sym w.slots-is) w.note.ensures
       | else-row-first w ↦ subst (λ os. Noted l row c.loop-row.slots os) (sym w.slots-is) (passed_over l row c.loop-row.slots (λ e. w.if-row-first.false (e ∙ sym first)))
@@ -30,9 +30,9 @@ returns-in-Supers c =
     let all = gathered_all l rows c.loop-row.row-index c.loop-row.slots c.loop-row-test.false c.loop-row.invariant in
     record { asked = c.at.ensures.asked; gathered = gathered_default l c.in-Supers.tr c.itself.result rows c.loop-row.slots c.note-in-Supers.new.slots c.in-Supers.is c.itself.ensures all c.note-in-Supers.ensures }
 
-pub returns-in-default : goal.returns-in-default
-returns-in-default c =
+pub returns-in_default : goal.returns-in_default
+returns-in_default c =
     let rows = c.args.rows.now in
     let l = c.args.listing in
     let all = gathered_all l rows c.loop-row.row-index c.loop-row.slots c.loop-row-test.false c.loop-row.invariant in
-    record { asked = c.at.ensures.asked; gathered = gathered_plain l rows c.loop-row.slots c.in-default.not-Supers all }
+    record { asked = c.at.ensures.asked; gathered = gathered_plain l rows c.loop-row.slots c.in_default.not-Supers all }
