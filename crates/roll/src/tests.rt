@@ -33,5 +33,5 @@ fn finds_what_is_on_it(rt: HostRuntime) {
     assert!(rt; roll.has(&2), "the last element");
     assert!(rt; !roll.has(&5), "only behind the contents");
     assert_eq!(rt; roll.len(), 2);
-    assert_eq!(rt; roll.as_slice(), &[1, 2]);
+    assert_eq!(rt; roll.as_slice(), [1, 2].as_slice());
 }

@@ -5,7 +5,7 @@
 -- the ID and the question's number are read first, since they say how many words are wanted. In `host` the ID is read
 -- before the kind.
 use Rattle.std.specs.Prelude.{◌≡◌, ℕ, ◌+◌, ◌-◌, ◌*◌, ◌^◌, Bool, true, cond, ◌&&◌, List, [], ◌∷◌, map, length, Some, None, Ok, Err, codes, Option, Result, ◌==◌, nat_eq, nat_le, nat_lt, slice_index}
-use Rattle.std.specs.Borrow.{MutBor}
+use Rattle.std.specs.Borrow.{Bor}
 use Rattle.std.specs.Option.{ok_or}
 use Rattle.std.specs.Str.{bytes_eq}
 use Rattle.host.specs.declared.forms.ContainerKind.{ContainerKind}
@@ -31,7 +31,7 @@ abbrev pub Text : Type 0
 Text = List ℕ
 
 -- the words' texts
-abbrev pub texts : List (MutBor Text) → List Text
+abbrev pub texts : List (Bor Text) → List Text
 texts ws = map (λ w. w.now) ws
 
 -- Numbers.

@@ -23,26 +23,26 @@ two : (ws : List (Bor Text)) → 1 < length ws → (a b : Result ℕ Fault) →
 unfolding ask_line
 two ws h a b p q = ap ask_line (two_words ws h) ∙ rw (p, q)
 
-pub returns-in-default : goal.returns-in-default
-returns-in-default c = sym (short c.args.words.now (search rules))
+pub returns-in_default : goal.returns-in_default
+returns-in_default c = sym (short c.args.words.now (search rules))
 
-pub returns-in-err-id : goal.returns-in-err-id
-returns-in-err-id c =
-    failed c.from-residual.result c.in-err-id.field-0.0 c.from-residual.ensures.1 ∙
-    sym (two c.args.words.now (search rules) (Err c.in-err-id.field-0.0) (number_at 3 (get_or c.args.words.now 1 blank).now) c.in-err-id.ensures refl)
+pub returns-in_err-id : goal.returns-in_err-id
+returns-in_err-id c =
+    failed c.from_residual.result c.in_err-id.field-0.0 c.from_residual.ensures.1 ∙
+    sym (two c.args.words.now (search rules) (Err c.in_err-id.field-0.0) (number_at 3 (get_or c.args.words.now 1 blank).now) c.in_err-id.ensures refl)
 
-pub returns-in-err-number : goal.returns-in-err-number
-returns-in-err-number c =
-    failed c.from-residual-in-err-number.result c.in-err-number.field-0.0 c.from-residual-in-err-number.ensures.1 ∙
-    sym (two c.args.words.now (search rules) (Ok c.in-ok-id.id) (Err c.in-err-number.field-0.0) c.in-ok-id.ensures c.in-err-number.ensures)
+pub returns-in_err-number : goal.returns-in_err-number
+returns-in_err-number c =
+    failed c.from_residual-in_err-number.result c.in_err-number.field-0.0 c.from_residual-in_err-number.ensures.1 ∙
+    sym (two c.args.words.now (search rules) (Ok c.in_ok-id.id) (Err c.in_err-number.field-0.0) c.in_ok-id.ensures c.in_err-number.ensures)
 
-pub returns-in-err-question : goal.returns-in-err-question
-returns-in-err-question c =
-    failed c.from-residual-in-err-question.result c.in-err-question.field-0.0 c.from-residual-in-err-question.ensures.1 ∙
-    sym (two c.args.words.now (search rules) (Ok c.in-ok-id.id) (Ok c.in-ok-number.number) c.in-ok-id.ensures c.in-ok-number.ensures ∙
-    ap (λ r. r then (λ a. Ok (command.Ask c.in-ok-id.id a))) (sym c.in-err-question.ensures))
+pub returns-in_err-question : goal.returns-in_err-question
+returns-in_err-question c =
+    failed c.from_residual-in_err-question.result c.in_err-question.field-0.0 c.from_residual-in_err-question.ensures.1 ∙
+    sym (two c.args.words.now (search rules) (Ok c.in_ok-id.id) (Ok c.in_ok-number.number) c.in_ok-id.ensures c.in_ok-number.ensures ∙
+    ap (λ r. r then (λ a. Ok (command.Ask c.in_ok-id.id a))) (sym c.in_err-question.ensures))
 
 pub returns : goal.returns
 returns c =
-    sym (two c.args.words.now (search rules) (Ok c.in-ok-id.id) (Ok c.in-ok-number.number) c.in-ok-id.ensures c.in-ok-number.ensures ∙
-    ap (λ r. r then (λ a. Ok (command.Ask c.in-ok-id.id a))) (sym c.in-ok-question.ensures))
+    sym (two c.args.words.now (search rules) (Ok c.in_ok-id.id) (Ok c.in_ok-number.number) c.in_ok-id.ensures c.in_ok-number.ensures ∙
+    ap (λ r. r then (λ a. Ok (command.Ask c.in_ok-id.id a))) (sym c.in_ok-question.ensures))

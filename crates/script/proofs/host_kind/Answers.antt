@@ -12,8 +12,8 @@ pub returns-in-empty : goal.returns-in-empty
 unfolding host_kind
 returns-in-empty c = sym (ap host_kind c.in-empty.is)
 
-pub returns-in-default : goal.returns-in-default
+pub returns-in_default : goal.returns-in_default
 unfolding host_kind
-returns-in-default c =
-    sym (cond-false _ _ _ (other_text c.args.word.now (codes "tabled") c.in-default.not-tabled) ∙
-    cond-false _ _ _ (other_text c.args.word.now (codes "empty") c.in-default.not-empty))
+returns-in_default c =
+    sym (cond-false _ _ _ (other_text c.args.word.now (codes "tabled") c.in_default.not-tabled) ∙
+    cond-false _ _ _ (other_text c.args.word.now (codes "empty") c.in_default.not-empty))

@@ -32,19 +32,19 @@ two (w ∷ v ∷ u ∷ ws) h a b p q = absurd (omega arith)
 pub returns-in-empty : goal.returns-in-empty
 returns-in-empty c = sym (short c.args.words.now (search rules))
 
-pub returns-in-default : goal.returns-in-default
-returns-in-default c = sym (long c.args.words.now (search rules))
+pub returns-in_default : goal.returns-in_default
+returns-in_default c = sym (long c.args.words.now (search rules))
 
-pub returns-in-err-id : goal.returns-in-err-id
-returns-in-err-id c =
-    failed c.from-residual.result c.in-err-id.field-0.0 c.from-residual.ensures.1 ∙
-    sym (two c.args.words.now (search rules) (Err c.in-err-id.field-0.0) (host_kind (get_or c.args.words.now 1 blank).now) c.in-err-id.ensures refl)
+pub returns-in_err-id-in-len2 : goal.returns-in_err-id-in-len2
+returns-in_err-id-in-len2 c =
+    failed c.from_residual.result c.in_err-id-in-len2.field-0.0 c.from_residual.ensures.1 ∙
+    sym (two c.args.words.now (search rules) (Err c.in_err-id-in-len2.field-0.0) (host_kind (get_or c.args.words.now 1 blank).now) c.in_err-id-in-len2.ensures refl)
 
-pub returns-in-err-kind : goal.returns-in-err-kind
-returns-in-err-kind c =
-    failed c.from-residual-in-err-kind.result c.in-err-kind.field-0.0 c.from-residual-in-err-kind.ensures.1 ∙
-    sym (two c.args.words.now (search rules) (Ok c.in-ok-id.id) (Err c.in-err-kind.field-0.0) c.in-ok-id.ensures c.in-err-kind.ensures)
+pub returns-in_err-kind-in-len2 : goal.returns-in_err-kind-in-len2
+returns-in_err-kind-in-len2 c =
+    failed c.from_residual-in_err-kind-in-len2.result c.in_err-kind-in-len2.field-0.0 c.from_residual-in_err-kind-in-len2.ensures.1 ∙
+    sym (two c.args.words.now (search rules) (Ok c.in_ok-id-in-len2.id) (Err c.in_err-kind-in-len2.field-0.0) c.in_ok-id-in-len2.ensures c.in_err-kind-in-len2.ensures)
 
-pub returns-in-ok-kind : goal.returns-in-ok-kind
-returns-in-ok-kind c =
-    sym (two c.args.words.now (search rules) (Ok c.in-ok-id.id) (Ok c.in-ok-kind.kind) c.in-ok-id.ensures c.in-ok-kind.ensures)
+pub returns-in_ok-kind-in-len2 : goal.returns-in_ok-kind-in-len2
+returns-in_ok-kind-in-len2 c =
+    sym (two c.args.words.now (search rules) (Ok c.in_ok-id-in-len2.id) (Ok c.in_ok-kind-in-len2.kind) c.in_ok-id-in-len2.ensures c.in_ok-kind-in-len2.ensures)

@@ -13,36 +13,36 @@ other w ws a b c d =
     cond-false _ _ _ (other_text w (codes "host") a) ∙ cond-false _ _ _ (other_text w (codes "row") b) ∙
     cond-false _ _ _ (other_text w (codes "open") c) ∙ cond-false _ _ _ (other_text w (codes "ask") d)
 
-pub returns-in-default : goal.returns-in-default
+pub returns-in_default : goal.returns-in_default
 unfolding parsed
-returns-in-default c = sym (ap (λ ws. parsed (texts ws)) (nil_from_length c.args.words.now (search rules)))
+returns-in_default c = sym (ap (λ ws. parsed (texts ws)) (nil_from_length c.args.words.now (search rules)))
 
 pub returns-in-host : goal.returns-in-host
 unfolding parsed
 returns-in-host c =
-    c.host-line.ensures ∙ sym (ap parsed (first_word c.args.words.now (search rules)) ∙
+    c.host_line.ensures ∙ sym (ap parsed (first_word c.args.words.now (search rules)) ∙
     ap (λ w. parsed (w ∷ texts (behind_words 1 c.args.words.now))) c.in-host.is)
 
 pub returns-in-row : goal.returns-in-row
 unfolding parsed
 returns-in-row c =
-    c.row-line.ensures ∙ sym (ap parsed (first_word c.args.words.now (search rules)) ∙
+    c.row_line.ensures ∙ sym (ap parsed (first_word c.args.words.now (search rules)) ∙
     ap (λ w. parsed (w ∷ texts (behind_words 1 c.args.words.now))) c.in-row.is)
 
 pub returns-in-open : goal.returns-in-open
 unfolding parsed
 returns-in-open c =
-    c.open-line.ensures ∙ sym (ap parsed (first_word c.args.words.now (search rules)) ∙
+    c.open_line.ensures ∙ sym (ap parsed (first_word c.args.words.now (search rules)) ∙
     ap (λ w. parsed (w ∷ texts (behind_words 1 c.args.words.now))) c.in-open.is)
 
 pub returns-in-ask : goal.returns-in-ask
 unfolding parsed
 returns-in-ask c =
-    c.ask-line.ensures ∙ sym (ap parsed (first_word c.args.words.now (search rules)) ∙
+    c.ask_line.ensures ∙ sym (ap parsed (first_word c.args.words.now (search rules)) ∙
     ap (λ w. parsed (w ∷ texts (behind_words 1 c.args.words.now))) c.in-ask.is)
 
-pub returns-in-default-command : goal.returns-in-default-command
-returns-in-default-command c =
+pub returns-in_default-command : goal.returns-in_default-command
+returns-in_default-command c =
     sym (ap parsed (first_word c.args.words.now (search rules)) ∙
     other (get_or c.args.words.now 0 blank).now (texts (behind_words 1 c.args.words.now))
-    c.in-default-command.not-host c.in-default-command.not-row c.in-default-command.not-open c.in-default-command.not-ask)
+    c.in_default-command.not-host c.in_default-command.not-row c.in_default-command.not-open c.in_default-command.not-ask)

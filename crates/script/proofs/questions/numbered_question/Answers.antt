@@ -11,101 +11,101 @@ use Rattle.script.proofs.questions.numbered_question.Goals as goal
 at : (n k : ℕ) (ws : List Text) (r : Result Question Fault) → n ≡ k → r ≡ question_line k ws → r ≡ question_line n ws
 at n k ws r e h = h ∙ ap (λ q. question_line q ws) (sym e)
 
-pub returns-in-err-ty : goal.returns-in-err-ty
+pub returns-in_err-ty-in-1 : goal.returns-in_err-ty-in-1
 unfolding question_line
-returns-in-err-ty c =
-    failed c.from-residual.result c.in-err-ty.field-0.0 c.from-residual.ensures.1 ∙
-    at c.args.number 1 (texts c.args.words.now) (Err c.in-err-ty.field-0.0) c.in-1.is
-    (let e = sym c.in-err-ty.ensures in rw e)
+returns-in_err-ty-in-1 c =
+    failed c.from_residual.result c.in_err-ty-in-1.field-0.0 c.from_residual.ensures.1 ∙
+    at c.args.number 1 (texts c.args.words.now) (Err c.in_err-ty-in-1.field-0.0) c.in-1.is
+    (let e = sym c.in_err-ty-in-1.ensures in rw e)
 
-pub returns-in-ok-ty : goal.returns-in-ok-ty
+pub returns-in_ok-ty-in-1 : goal.returns-in_ok-ty-in-1
 unfolding question_line
-returns-in-ok-ty c =
-    at c.args.number 1 (texts c.args.words.now) _ c.in-1.is (let e = sym c.in-ok-ty.ensures in rw e)
+returns-in_ok-ty-in-1 c =
+    at c.args.number 1 (texts c.args.words.now) _ c.in-1.is (let e = sym c.in_ok-ty-in-1.ensures in rw e)
 
-pub returns-in-err-ty-2 : goal.returns-in-err-ty-2
+pub returns-in_err-ty-in-2 : goal.returns-in_err-ty-in-2
 unfolding question_line
-returns-in-err-ty-2 c =
-    failed c.from-residual-in-err-ty-2.result c.in-err-ty-2.field-0.0 c.from-residual-in-err-ty-2.ensures.1 ∙
-    at c.args.number 2 (texts c.args.words.now) (Err c.in-err-ty-2.field-0.0) c.in-2.is
-    (let e = sym c.in-err-ty-2.ensures in rw e)
+returns-in_err-ty-in-2 c =
+    failed c.from_residual-in_err-ty-in-2.result c.in_err-ty-in-2.field-0.0 c.from_residual-in_err-ty-in-2.ensures.1 ∙
+    at c.args.number 2 (texts c.args.words.now) (Err c.in_err-ty-in-2.field-0.0) c.in-2.is
+    (let e = sym c.in_err-ty-in-2.ensures in rw e)
 
-pub returns-in-ok-ty-2 : goal.returns-in-ok-ty-2
+pub returns-in_ok-ty-in-2 : goal.returns-in_ok-ty-in-2
 unfolding question_line
-returns-in-ok-ty-2 c =
-    at c.args.number 2 (texts c.args.words.now) _ c.in-2.is (let e = sym c.in-ok-ty-2.ensures in rw e)
+returns-in_ok-ty-in-2 c =
+    at c.args.number 2 (texts c.args.words.now) _ c.in-2.is (let e = sym c.in_ok-ty-in-2.ensures in rw e)
 
-pub returns-in-err-ty-3 : goal.returns-in-err-ty-3
+pub returns-in_err-ty-in-3 : goal.returns-in_err-ty-in-3
 unfolding question_line
-returns-in-err-ty-3 c =
-    failed c.from-residual-in-err-ty-3.result c.in-err-ty-3.field-0.0 c.from-residual-in-err-ty-3.ensures.1 ∙
-    at c.args.number 3 (texts c.args.words.now) (Err c.in-err-ty-3.field-0.0) c.in-3.is
-    (let e = sym c.in-err-ty-3.ensures in rw e)
+returns-in_err-ty-in-3 c =
+    failed c.from_residual-in_err-ty-in-3.result c.in_err-ty-in-3.field-0.0 c.from_residual-in_err-ty-in-3.ensures.1 ∙
+    at c.args.number 3 (texts c.args.words.now) (Err c.in_err-ty-in-3.field-0.0) c.in-3.is
+    (let e = sym c.in_err-ty-in-3.ensures in rw e)
 
-pub returns-in-ok-ty-3 : goal.returns-in-ok-ty-3
+pub returns-in_ok-ty-in-3 : goal.returns-in_ok-ty-in-3
 unfolding question_line
-returns-in-ok-ty-3 c =
-    at c.args.number 3 (texts c.args.words.now) _ c.in-3.is (let e = sym c.in-ok-ty-3.ensures in rw e)
+returns-in_ok-ty-in-3 c =
+    at c.args.number 3 (texts c.args.words.now) _ c.in-3.is (let e = sym c.in_ok-ty-in-3.ensures in rw e)
 
-pub returns-in-err-kind : goal.returns-in-err-kind
+pub returns-in_err-kind-in-4 : goal.returns-in_err-kind-in-4
 unfolding question_line
-returns-in-err-kind c =
-    failed c.from-residual-in-err-kind.result c.in-err-kind.field-0.0 c.from-residual-in-err-kind.ensures.1 ∙
-    at c.args.number 4 (texts c.args.words.now) (Err c.in-err-kind.field-0.0) c.in-4.is
-    (let e = sym c.in-err-kind.ensures in rw e)
+returns-in_err-kind-in-4 c =
+    failed c.from_residual-in_err-kind-in-4.result c.in_err-kind-in-4.field-0.0 c.from_residual-in_err-kind-in-4.ensures.1 ∙
+    at c.args.number 4 (texts c.args.words.now) (Err c.in_err-kind-in-4.field-0.0) c.in-4.is
+    (let e = sym c.in_err-kind-in-4.ensures in rw e)
 
-pub returns-in-ok-kind : goal.returns-in-ok-kind
+pub returns-in_ok-kind-in-4 : goal.returns-in_ok-kind-in-4
 unfolding question_line
-returns-in-ok-kind c =
-    at c.args.number 4 (texts c.args.words.now) _ c.in-4.is (let e = sym c.in-ok-kind.ensures in rw e)
+returns-in_ok-kind-in-4 c =
+    at c.args.number 4 (texts c.args.words.now) _ c.in-4.is (let e = sym c.in_ok-kind-in-4.ensures in rw e)
 
-pub returns-in-err-ty-4 : goal.returns-in-err-ty-4
+pub returns-in_err-ty-in-5 : goal.returns-in_err-ty-in-5
 unfolding question_line
-returns-in-err-ty-4 c =
-    failed c.from-residual-in-err-ty-4.result c.in-err-ty-4.field-0.0 c.from-residual-in-err-ty-4.ensures.1 ∙
-    at c.args.number 5 (texts c.args.words.now) (Err c.in-err-ty-4.field-0.0) c.in-5.is
-    (let e = sym c.in-err-ty-4.ensures in rw e)
+returns-in_err-ty-in-5 c =
+    failed c.from_residual-in_err-ty-in-5.result c.in_err-ty-in-5.field-0.0 c.from_residual-in_err-ty-in-5.ensures.1 ∙
+    at c.args.number 5 (texts c.args.words.now) (Err c.in_err-ty-in-5.field-0.0) c.in-5.is
+    (let e = sym c.in_err-ty-in-5.ensures in rw e)
 
-pub returns-in-ok-ty-4 : goal.returns-in-ok-ty-4
+pub returns-in_ok-ty-in-5 : goal.returns-in_ok-ty-in-5
 unfolding question_line
-returns-in-ok-ty-4 c =
-    at c.args.number 5 (texts c.args.words.now) _ c.in-5.is (let e = sym c.in-ok-ty-4.ensures in rw e)
+returns-in_ok-ty-in-5 c =
+    at c.args.number 5 (texts c.args.words.now) _ c.in-5.is (let e = sym c.in_ok-ty-in-5.ensures in rw e)
 
-pub returns-in-err-tr : goal.returns-in-err-tr
+pub returns-in_err-tr-in-6 : goal.returns-in_err-tr-in-6
 unfolding question_line
-returns-in-err-tr c =
-    failed c.from-residual-in-err-tr.result c.in-err-tr.field-0.0 c.from-residual-in-err-tr.ensures.1 ∙
-    at c.args.number 6 (texts c.args.words.now) (Err c.in-err-tr.field-0.0) c.in-6.is
-    (let e = sym c.in-err-tr.ensures in rw e)
+returns-in_err-tr-in-6 c =
+    failed c.from_residual-in_err-tr-in-6.result c.in_err-tr-in-6.field-0.0 c.from_residual-in_err-tr-in-6.ensures.1 ∙
+    at c.args.number 6 (texts c.args.words.now) (Err c.in_err-tr-in-6.field-0.0) c.in-6.is
+    (let e = sym c.in_err-tr-in-6.ensures in rw e)
 
-pub returns-in-ok-tr : goal.returns-in-ok-tr
+pub returns-in_ok-tr-in-6 : goal.returns-in_ok-tr-in-6
 unfolding question_line
-returns-in-ok-tr c =
-    at c.args.number 6 (texts c.args.words.now) _ c.in-6.is (let e = sym c.in-ok-tr.ensures in rw e)
+returns-in_ok-tr-in-6 c =
+    at c.args.number 6 (texts c.args.words.now) _ c.in-6.is (let e = sym c.in_ok-tr-in-6.ensures in rw e)
 
-pub returns-in-err-kind-2 : goal.returns-in-err-kind-2
+pub returns-in_err-kind-in-7 : goal.returns-in_err-kind-in-7
 unfolding question_line
-returns-in-err-kind-2 c =
-    failed c.from-residual-in-err-kind-2.result c.in-err-kind-2.field-0.0 c.from-residual-in-err-kind-2.ensures.1 ∙
-    at c.args.number 7 (texts c.args.words.now) (Err c.in-err-kind-2.field-0.0) c.in-7.is
-    (let e = sym c.in-err-kind-2.ensures in rw e)
+returns-in_err-kind-in-7 c =
+    failed c.from_residual-in_err-kind-in-7.result c.in_err-kind-in-7.field-0.0 c.from_residual-in_err-kind-in-7.ensures.1 ∙
+    at c.args.number 7 (texts c.args.words.now) (Err c.in_err-kind-in-7.field-0.0) c.in-7.is
+    (let e = sym c.in_err-kind-in-7.ensures in rw e)
 
-pub returns-in-ok-kind-2 : goal.returns-in-ok-kind-2
+pub returns-in_ok-kind-in-7 : goal.returns-in_ok-kind-in-7
 unfolding question_line
-returns-in-ok-kind-2 c =
-    at c.args.number 7 (texts c.args.words.now) _ c.in-7.is (let e = sym c.in-ok-kind-2.ensures in rw e)
+returns-in_ok-kind-in-7 c =
+    at c.args.number 7 (texts c.args.words.now) _ c.in-7.is (let e = sym c.in_ok-kind-in-7.ensures in rw e)
 
-pub returns-in-err-tr-2 : goal.returns-in-err-tr-2
+pub returns-in_err-tr-in-8 : goal.returns-in_err-tr-in-8
 unfolding question_line
-returns-in-err-tr-2 c =
-    failed c.from-residual-in-err-tr-2.result c.in-err-tr-2.field-0.0 c.from-residual-in-err-tr-2.ensures.1 ∙
-    at c.args.number 8 (texts c.args.words.now) (Err c.in-err-tr-2.field-0.0) c.in-8.is
-    (let e = sym c.in-err-tr-2.ensures in rw e)
+returns-in_err-tr-in-8 c =
+    failed c.from_residual-in_err-tr-in-8.result c.in_err-tr-in-8.field-0.0 c.from_residual-in_err-tr-in-8.ensures.1 ∙
+    at c.args.number 8 (texts c.args.words.now) (Err c.in_err-tr-in-8.field-0.0) c.in-8.is
+    (let e = sym c.in_err-tr-in-8.ensures in rw e)
 
-pub returns-in-ok-tr-2 : goal.returns-in-ok-tr-2
+pub returns-in_ok-tr-in-8 : goal.returns-in_ok-tr-in-8
 unfolding question_line
-returns-in-ok-tr-2 c =
-    at c.args.number 8 (texts c.args.words.now) _ c.in-8.is (let e = sym c.in-ok-tr-2.ensures in rw e)
+returns-in_ok-tr-in-8 c =
+    at c.args.number 8 (texts c.args.words.now) _ c.in-8.is (let e = sym c.in_ok-tr-in-8.ensures in rw e)
 
 pub returns-in-9 : goal.returns-in-9
 unfolding question_line
@@ -129,5 +129,5 @@ other n ws ne =
     cond-false _ _ _ (ne_eqb n 9 (ne 8 (omega arith))) ∙
     cond-false _ _ _ (ne_eqb n 10 (ne 9 (omega arith)))
 
-pub returns-in-default : goal.returns-in-default
-returns-in-default c = sym (other c.args.number (texts c.args.words.now) (λ k h e. search rules))
+pub returns-in_default : goal.returns-in_default
+returns-in_default c = sym (other c.args.number (texts c.args.words.now) (λ k h e. search rules))

@@ -33,11 +33,11 @@ read w (Err d) never = step (cases_Bool (digits w && (ltb 0 (length w) && ltb (v
         absurd (never (p.0, ltb-true 0 (length w) q.0, ltb-true (value w) (2 ^ 32) q.1))
     step (inr f) = sym (cond-false _ _ _ f)
 
-pub returns-then-starts-with : goal.returns-then-starts-with
-returns-then-starts-with c = sym (signed c.args.word.now (c.if-starts-with.ensures.cases.1.byte (omega arith)))
+pub returns-then-starts_with : goal.returns-then-starts_with
+returns-then-starts_with c = sym (signed c.args.word.now (c.if-starts_with.ensures.cases.1.byte (omega arith)))
 
 pub returns : goal.returns
 returns c =
     c.ok.ensures.value ∙
     read c.args.word.now c.parse.result
-    (parse_plain own 32 c.args.word.now c.parse.result c.parse.ensures.value.0 (unsigned c.args.word.now c.if-starts-with.ensures.cases))
+    (parse_plain own 32 c.args.word.now c.parse.result c.parse.ensures.value.0 (unsigned c.args.word.now c.if-starts_with.ensures.cases))

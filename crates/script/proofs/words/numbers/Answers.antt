@@ -21,15 +21,15 @@ pub loop-i-preserved : goal.loop-i-preserved
 loop-i-preserved g c = (
   simp length-set c.loop-i.invariant.0,
   loop-step c.args.words.now c.loop-i.found c.args.first c.loop-i.i _ c.loop-i.invariant.1
-      c.in-ok-found.field-0 (omega arith) (omega (arith, c.loop-i.invariant.0)) c.in-ok-found.ensures,
+      c.in_ok-found.field-0 (omega arith) (omega (arith, c.loop-i.invariant.0)) c.in_ok-found.ensures,
 )
 
-pub returns-in-err-found : goal.returns-in-err-found
-returns-in-err-found g c =
-    failed c.from-residual.result c.in-err-found.field-0.0 c.from-residual.ensures.1 ∙
+pub returns-in_err-found : goal.returns-in_err-found
+returns-in_err-found g c =
+    failed c.from_residual.result c.in_err-found.field-0.0 c.from_residual.ensures.1 ∙
     sym (counted g.row.N c.args.words.now _ (omega arith) ∙
     loop-stop c.args.words.now c.loop-i.found c.args.first c.loop-i.i _ c.loop-i.invariant.1
-    c.in-err-found.field-0.0 (omega arith) c.in-err-found.ensures)
+    c.in_err-found.field-0.0 (omega arith) c.in_err-found.ensures)
 
 pub returns : goal.returns
 returns g c =

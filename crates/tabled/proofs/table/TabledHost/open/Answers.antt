@@ -4,11 +4,11 @@ use Rattle.rows.specs.Tables.{tabled}
 use Rattle.rows.proofs.Lawfulness.{unbroken, lawful_everywhere}
 use Rattle.tabled.proofs.table.TabledHost.open.Goals as goal
 
-pub invariant-of-result : goal.invariant-of-result
-invariant-of-result c =
+pub invariant_of-result : goal.invariant_of-result
+invariant_of-result c =
     let rows = vec_items c.args.rows in
-    let law = subst (λ rs. SupertraitLaw (tabled rs)) c.as-slice.ensures.value c.if-is-lawful.ensures in
-    (λ t. unbroken rows t (lawful_everywhere rows law t), tt)
+    let law = subst (λ rs. SupertraitLaw (tabled rs)) c.as_slice.ensures.value c.if-is_lawful.ensures in
+    record { unbroken = λ t. unbroken rows t (lawful_everywhere rows law t) }
 
-pub returns-then-is-lawful : goal.returns-then-is-lawful
-returns-then-is-lawful c = (refl, subst (λ rs. SupertraitLaw (tabled rs)) c.as-slice.ensures.value c.if-is-lawful.ensures)
+pub returns-then-is_lawful : goal.returns-then-is_lawful
+returns-then-is_lawful c = (refl, subst (λ rs. SupertraitLaw (tabled rs)) c.as_slice.ensures.value c.if-is_lawful.ensures)
