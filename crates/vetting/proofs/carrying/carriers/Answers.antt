@@ -12,7 +12,7 @@ no_container = record { kind = Impl; number = 0 }
 pub loop-container-preserved : goal.loop-container-preserved
 loop-container-preserved g c =
     let said = carried (g.H.Host.meaning c.args.host.now) c.args.name in
-    said_more said c.args.containers.now c.loop-container.container-index no_container (vec_items c.loop-container.found) (vec_items c.add-carriers.new.found) c.loop-container-test.true c.loop-container.invariant c.in-ok-add-carriers.ensures
+    said_more said c.args.containers.now c.loop-container.container-index no_container (vec_items c.loop-container.found) (vec_items c.add_carriers.new.found) c.loop-container-test.true c.loop-container.invariant c.in_ok-add_carriers.ensures
 
 pub returns : goal.returns
 returns g c =

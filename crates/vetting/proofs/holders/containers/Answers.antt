@@ -8,9 +8,9 @@ use Rattle.vetting.proofs.holders.containers.Goals as goal
 
 pub loop-row-preserved : goal.loop-row-preserved
 loop-row-preserved c =
-    let one = c.container-in.result in
+    let one = c.container_in.result in
     let after = vec_items c.note.new.found in
-    noted_more same_container exact_containers held c.args.rows.now c.loop-row.row-index no_row one None (vec_items c.loop-row.found) after after c.loop-row-test.true (append-nil (option_to_list one) ∙ ap option_to_list c.container-in.ensures) c.loop-row.invariant c.in-ok-note.ensures refl
+    noted_more same_container exact_containers held c.args.rows.now c.loop-row.row-index no_row one None (vec_items c.loop-row.found) after after c.loop-row-test.true (append-nil (option_to_list one) ∙ ap option_to_list c.container_in.ensures) c.loop-row.invariant c.in_ok-note.ensures refl
 
 pub returns : goal.returns
 returns c =

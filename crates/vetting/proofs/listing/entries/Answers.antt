@@ -9,15 +9,15 @@ loop-place-init g c =
     let f = asked_of (g.H.Host.meaning c.args.host.now) c.args.list in
     found_none (vec_items c.new-found.result) (listed f) c.new-found.ensures.items
 
-pub returns-in-default : goal.returns-in-default
-returns-in-default g c =
+pub returns-in_default : goal.returns-in_default
+returns-in_default g c =
     let f = asked_of (g.H.Host.meaning c.args.host.now) c.args.list in
-    found_gap (λ l. l) f c.loop-place.place c.asked.result (listed f) (vec_items c.loop-place.found) refl c.loop-place-test.true c.asked.ensures c.in-default.is c.loop-place.invariant
+    found_gap (λ l. l) f c.loop-place.place c.asked.result (listed f) (vec_items c.loop-place.found) refl c.loop-place-test.true c.asked.ensures c.in_default.is c.loop-place.invariant
 
 pub loop-place-preserved : goal.loop-place-preserved
 loop-place-preserved g c =
     let f = asked_of (g.H.Host.meaning c.args.host.now) c.args.list in
-    entry_more f c.loop-place.place c.asked.result c.in-Some.n (listed f) (vec_items c.loop-place.found) (vec_items c.push.new.self) c.loop-place-test.true c.asked.ensures c.in-Some.is c.loop-place.invariant c.in-ok-push.ensures.items
+    entry_more f c.loop-place.place c.asked.result c.in-Some.n (listed f) (vec_items c.loop-place.found) (vec_items c.push.new.self) c.loop-place-test.true c.asked.ensures c.in-Some.is c.loop-place.invariant c.in_ok-push.ensures.items
 
 pub returns : goal.returns
 returns g c =

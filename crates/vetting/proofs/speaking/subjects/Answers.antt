@@ -8,7 +8,7 @@ use Rattle.vetting.proofs.speaking.subjects.Goals as goal
 pub loop-row-preserved : goal.loop-row-preserved
 loop-row-preserved c =
     let said = c.mentions-first.result in
-    noted_more eqb exact_numbers (mentioned c.args.subject) c.args.rows.now c.loop-row.row-index no_row said.0 said.1 (vec_items c.loop-row.found) (vec_items c.note.new.found) (vec_items c.note-in-loop-row.new.found) c.loop-row-test.true c.mentions-first.ensures c.loop-row.invariant c.in-ok-note.ensures c.in-ok-note-2.ensures
+    noted_more eqb exact_numbers (mentioned c.args.subject) c.args.rows.now c.loop-row.row-index no_row said.0 said.1 (vec_items c.loop-row.found) (vec_items c.note.new.found) (vec_items c.note-in-loop-row.new.found) c.loop-row-test.true c.mentions-first.ensures c.loop-row.invariant c.in_ok-note.ensures c.in_ok-note-2.ensures
 
 pub returns : goal.returns
 returns c =
