@@ -9,7 +9,7 @@ use Rattle.host.specs.declared.questions.Answer.{Answer}
 use Rattle.host.specs.declared.questions.Answer.TheVariants as reply
 use Rattle.host.specs.Meaning.{Meaning}
 use Rattle.host.specs.Questions.{answer, askable, Alike}
-use Rattle.host.specs.Law.{Lawful, empty_host}
+use Rattle.host.specs.Law.{Lawful}
 
 -- what is in an answer of each kind; the second argument stands for the other kinds
 abbrev form_in : Answer → TypeForm → TypeForm

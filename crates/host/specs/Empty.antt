@@ -1,9 +1,9 @@
 -- The empty host keeps the laws.
-use Rattle.std.specs.Prelude.{◌≡◌, ℕ, suc, ◌+◌, ◌<◌, ◌≤◌, true, false, cond, ◌⊎◌, List, [], ◌∷◌, Some, None, Option, ◌==◌, refl}
+use Rattle.std.specs.Prelude.{◌≡◌, ℕ, ◌+◌, ◌<◌, cond, ◌⊎◌, [], ◌∷◌, Some, None, ◌==◌, refl}
 use Rattle.std.proofs.Common.{sym, ap, subst, inl, inr, arith}
-use Rattle.std.proofs.lemmas.Bool.{ne_eqb, eqb-false}
-use Rattle.host.specs.Meaning.{Meaning, supers_of, listed_from, ◌∈◌}
-use Rattle.host.specs.Law.{Ends, SupersLawful, Lawful, empty_host}
+use Rattle.std.proofs.lemmas.Bool.{ne_eqb}
+use Rattle.host.specs.Meaning.{supers_of, listed_from, ◌∈◌}
+use Rattle.host.specs.Law.{Ends, Lawful, empty_host}
 
 nothing_ends : {X : Type 0} → Ends {X = X} (λ p. None)
 nothing_ends = record { stays = λ p e. refl; short = λ p h. refl }

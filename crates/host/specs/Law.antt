@@ -1,5 +1,5 @@
 -- The laws that every host's answers keep.
-use Rattle.std.specs.Prelude.{◌≡◌, ℕ, ◌+◌, ◌^◌, ◌<◌, ◌≤◌, Bool, true, false, cond, Some, None, Option, ◌==◌}
+use Rattle.std.specs.Prelude.{◌≡◌, ℕ, ◌+◌, ◌^◌, ◌<◌, ◌≤◌, false, cond, Some, None, Option, ◌==◌}
 use Rattle.host.specs.declared.forms.ContainerKind.{ContainerKind}
 use Rattle.host.specs.declared.forms.Form.TheVariants.{Other}
 use Rattle.host.specs.declared.questions.Question.{Question}

@@ -1,5 +1,5 @@
 -- The questions as values, and when two meanings are equal.
-use Rattle.std.specs.Prelude.{◌≡◌, ℕ, ◌^◌, Bool, true, false, ◌&&◌, List, [], ◌∷◌, nat_lt}
+use Rattle.std.specs.Prelude.{◌≡◌, ℕ, ◌^◌, Bool, true, ◌&&◌, List, [], ◌∷◌, nat_lt}
 use Rattle.host.specs.Meaning.{Meaning}
 use Rattle.host.specs.declared.questions.Question.{Question}
 use Rattle.host.specs.declared.questions.Question.TheVariants as question

@@ -1,10 +1,9 @@
 -- There is an answer, and only one.
-use Rattle.std.proofs.Common.{◌≡◌, ℕ, suc, ◌+◌, ◌-◌, ◌<◌, ◌≤◌, Bool, true, false, cond, not, ◌⊎◌, List, [], ◌∷◌, ◌++◌, map, length, drop, filter, sym, refl, ap, ◌∙◌, subst, inl, inr, append_assoc, append-nil, arith, length-append, length-drop}
+use Rattle.std.proofs.Common.{◌≡◌, ◌<◌, ◌≤◌, not, ◌⊎◌, List, [], ◌∷◌, ◌++◌, length, drop, filter, sym, refl, ap, ◌∙◌, subst, inl, inr, append_assoc, append-nil, arith, length-append, length-drop}
 use lib.ListN.{length-map}
 use Rattle.method_resolution.specs.Types.{Candidate, CandidateSource, CandidateStep, Err, ItemId, ListEntry, Ok, Pick, Place, Refusal, Result, Shadowed, Source, TooManyCandidates, TooManyImpls, Verdict}
 use Rattle.std.specs.List.{AllByRecursion as All}
 use Rattle.std.proofs.lemmas.Bool.{cases_lt}
-use Rattle.host.specs.Meaning.{◌∈◌}
 use Rattle.host.specs.Law.{Lawful}
 use Rattle.method_resolution.specs.Questions.{Question, Scope}
 use Rattle.method_resolution.specs.Offers.{Offer, offers}
@@ -16,7 +15,7 @@ use Rattle.method_resolution.specs.Judgement.{Decision, nothing, pick, ambiguity
 use Rattle.host.specs.Identity.{same_item}
 use Rattle.method_resolution.specs.Verdicts as verdicts
 use Rattle.method_resolution.specs.Verdicts.{Turn, turns, SomeApply, Undecided, Finding, Finds, Answer, Accepted, FewAutoderefs, put_in_front, told}
-use Rattle.method_resolution.specs.OneAnswer.{Answered, OneAnswer}
+use Rattle.method_resolution.specs.OneAnswer.{OneAnswer}
 use Rattle.method_resolution.proofs.ListFacts.{all_at}
 use Rattle.method_resolution.proofs.Deciding.{finding, finding_found, by_decision}
 use Rattle.method_resolution.proofs.AssembledLists.{applying_offered, kept_shorter}

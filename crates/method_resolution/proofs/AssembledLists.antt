@@ -1,18 +1,17 @@
 -- How the lists depend on the scope, and what their candidates are.
-use Rattle.std.proofs.Common.{◌≡◌, ℕ, suc, ◌+◌, ◌<◌, ◌≤◌, Bool, true, false, cond, not, ◌&&◌, ◌⊎◌, List, [], ◌∷◌, ◌++◌, map, length, filter, sym, refl, ap, ◌∙◌, subst, inl, inr, append_assoc, append-nil, arith, length-append}
-use Rattle.method_resolution.specs.Types.{Candidate, CandidateKind, CandidateStep, ContainerKind, Form, InherentImplCandidate, ItemId, None, ObjectCandidate, Option, Place, Some, TraitCandidate, WhereClauseCandidate}
+use Rattle.std.proofs.Common.{◌≡◌, ℕ, suc, ◌+◌, ◌≤◌, Bool, true, false, cond, not, ◌&&◌, List, [], ◌∷◌, ◌++◌, length, filter, sym, refl, ap, ◌∙◌, append_assoc, append-nil, arith, length-append}
+use Rattle.method_resolution.specs.Types.{Candidate, CandidateKind, CandidateStep, Form, InherentImplCandidate, None, ObjectCandidate, Option, Place, Some, TraitCandidate, WhereClauseCandidate}
 use Rattle.std.specs.List.{AllByRecursion as All}
 use Rattle.std.proofs.lemmas.List.Elements.{filter-append}
 use Rattle.std.proofs.ByRecursion.{All-append, all_kept_by}
-use Rattle.host.specs.Meaning.{Meaning, ◌∈◌, listed, supers_of}
-use Rattle.host.specs.declared.forms.ContainerKind.TheVariants.{Impl, Trait}
+use Rattle.host.specs.Meaning.{Meaning, listed, supers_of}
+use Rattle.host.specs.declared.forms.ContainerKind.TheVariants.{Trait}
 use Rattle.host.specs.declared.forms.Form.TheVariants as form
 use Rattle.method_resolution.specs.Words.{gathered}
 use Rattle.method_resolution.specs.Questions.{Question, Scope}
 use Rattle.method_resolution.specs.Offers.{Offer, offers_as, object_offers, own_offers, stray_offers, bound_offers, offers_by_form, step_offers, once, same_impl, inherent_offers, trait_offers, offers, is_impl}
-use Rattle.method_resolution.specs.Assembly.{ListName, inherent, extension, private, offered_place, container_kind, candidate_at, candidate_of, is_trait_candidate, is_visible, goes_on, candidates_on, impls_met, Fits}
+use Rattle.method_resolution.specs.Assembly.{ListName, inherent, extension, private, offered_place, container_kind, candidate_at, candidate_of, is_trait_candidate, is_visible, goes_on, candidates_on, impls_met}
 use Rattle.method_resolution.specs.Places.{applies, applying}
-use Rattle.method_resolution.proofs.ListFacts.{never, all_at}
 
 pub gathered-append : {X Y : Type 0} (f : X → List Y) (xs ys : List X) → gathered f (xs ++ ys) ≡ gathered f xs ++ gathered f ys
 gathered-append f [] ys = refl

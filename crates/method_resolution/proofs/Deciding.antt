@@ -1,13 +1,13 @@
 -- A verdict can be computed.
-use Rattle.std.proofs.Common.{◌≡◌, ℕ, ◌+◌, ◌<◌, ◌≤◌, Bool, true, false, cond, not, ◌&&◌, eqb, ◌⊎◌, List, [], ◌∷◌, ◌++◌, map, length, filter, sym, refl, ap, ◌∙◌, subst, inl, inr, arith}
+use Rattle.std.proofs.Common.{◌≡◌, ℕ, ◌<◌, Bool, true, false, cond, ◌&&◌, eqb, ◌⊎◌, List, [], ◌∷◌, map, length, sym, refl, ap, subst, inl, inr, arith}
 use Rattle.method_resolution.specs.Types.{Ambiguity, Candidate, ContainerKind, Err, ItemId, NoMatch, None, Ok, Option, Pick, Place, PrivateMatch, Shadowed, Some, Source}
 use Rattle.std.specs.List.{AllByRecursion as All}
-use Rattle.std.proofs.lemmas.Bool.{cases_Bool, and_parts, and_from, eqb-true, eq-eqb}
+use Rattle.std.proofs.lemmas.Bool.{and_parts, and_from, eqb-true, eq-eqb}
 use Rattle.host.specs.Meaning.{◌∈◌, supers_of}
 use Rattle.host.specs.declared.forms.ContainerKind.TheVariants.{Impl, Trait}
-use Rattle.method_resolution.specs.Words.{First, NoneOf, gathered}
+use Rattle.method_resolution.specs.Words.{First, NoneOf}
 use Rattle.method_resolution.specs.Questions.{Question, Scope}
-use Rattle.method_resolution.specs.Assembly.{ListName, inherent, extension, private}
+use Rattle.method_resolution.specs.Assembly.{private}
 use Rattle.method_resolution.specs.Places.{places, applying}
 use Rattle.method_resolution.specs.Judgement as judgement
 use Rattle.method_resolution.specs.Judgement.{Decision, nothing, pick, ambiguity, Judged, OfTrait, OfOneTrait, AmongSupers, HasSubtrait, pick_of, trait_pick_of, shadowed_by, source_of}

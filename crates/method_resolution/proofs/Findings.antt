@@ -1,5 +1,5 @@
 -- One question over one scope finds one verdict: how a verdict came about.
-use Rattle.std.proofs.Common.{◌≡◌, ◌⊎◌, List, [], ◌∷◌, map, filter, sym, refl, ap, ◌∙◌, subst, inl, inr}
+use Rattle.std.proofs.Common.{◌≡◌, ◌⊎◌, List, [], ◌∷◌, map, filter, sym, refl, ◌∙◌, subst, inl, inr}
 use Rattle.std.specs.List.{AllByRecursion as All}
 use Rattle.host.specs.Meaning.{◌∈◌}
 use Rattle.host.specs.Law.{Lawful}

@@ -1,15 +1,14 @@
 -- A list of candidates is judged one way.
-use Rattle.std.proofs.Common.{◌≡◌, ℕ, suc, ◌+◌, ◌<◌, ◌≤◌, Bool, true, false, cond, not, ◌&&◌, eqb, ◌⊎◌, List, [], ◌∷◌, ◌++◌, map, length, filter, sym, refl, ap, ◌∙◌, subst, inl, inr, arith}
+use Rattle.std.proofs.Common.{◌≡◌, List, [], length, sym, refl, ap, ◌∙◌, arith}
 use Rattle.std.specs.List.{AllByRecursion as All}
-use Rattle.std.proofs.lemmas.Bool.{and_parts, eqb-true, cases_Bool}
-use Rattle.host.specs.Meaning.{Meaning, ◌∈◌, supers_of}
-use Rattle.method_resolution.specs.Types.{Candidate, CandidateSource, ContainerKind, ItemId, Pick, Place}
+use Rattle.host.specs.Meaning.{◌∈◌, supers_of}
+use Rattle.method_resolution.specs.Types.{Candidate, Place}
 use Rattle.host.specs.Law.{Lawful}
-use Rattle.host.specs.declared.forms.ContainerKind.TheVariants.{Impl, Trait}
+use Rattle.host.specs.declared.forms.ContainerKind.TheVariants.{Trait}
 use Rattle.method_resolution.specs.Questions.{Question}
 use Rattle.method_resolution.specs.Judgement as judgement
 use Rattle.method_resolution.specs.Judgement.{Decision, nothing, pick, ambiguity, Judged, OfTrait, OfOneTrait, AmongSupers, HasSubtrait, pick_of, trait_pick_of, shadowed_by, source_of}
-use Rattle.method_resolution.proofs.ListFacts.{never, all_at}
+use Rattle.method_resolution.proofs.ListFacts.{all_at}
 use Rattle.method_resolution.proofs.AssembledLists.{Offered, one_item}
 
 module _ (q : Question) (law : Lawful q.meaning) (p : Place) (cs : List Candidate) (made : All (Offered q) cs) where

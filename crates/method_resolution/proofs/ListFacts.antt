@@ -1,10 +1,9 @@
 -- Facts on lists, membership and tests.
-use Rattle.std.proofs.Common.{◌≡◌, ℕ, ◌+◌, ◌<◌, ◌≤◌, Bool, true, false, cond, not, ◌&&◌, eqb, ◌⊎◌, List, [], ◌∷◌, ◌++◌, map, length, filter, sym, refl, ap, ◌∙◌, subst, inl, inr, arith}
+use Rattle.std.proofs.Common.{◌≡◌, ℕ, Bool, true, false, cond, ◌&&◌, eqb, ◌⊎◌, List, [], ◌∷◌, sym, refl, ap, ◌∙◌, subst, inl, inr, arith}
 use Rattle.method_resolution.specs.Types.{None, Option, Some}
 use Rattle.std.specs.List.{AllByRecursion as All}
-use Rattle.std.proofs.lemmas.Bool.{cases_Bool, and_parts, and_from, eqb-true, eq-eqb}
+use Rattle.std.proofs.lemmas.Bool.{and_parts, and_from, eqb-true, eq-eqb}
 use Rattle.host.specs.Meaning.{◌∈◌}
-use Rattle.method_resolution.specs.Words.{First, NoneOf, gathered}
 
 pub never : (b : Bool) → b ≡ true → b ≡ false → ⊥
 never b p r = let z : true ≡ false = sym p ∙ r in let one : ◌≡◌ {A = ℕ} 0 1 = cc in omega arith

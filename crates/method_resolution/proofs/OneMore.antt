@@ -1,7 +1,6 @@
 -- What one more offer, and one more place, do to the definitions: the steps by which a program is proved.
-use Rattle.std.proofs.Common.{◌≡◌, ℕ, suc, ◌+◌, ◌-◌, ◌<◌, ◌≤◌, Bool, true, false, cond, not, ◌&&◌, ◌||◌, eqb, ◌⊎◌, List, [], ◌∷◌, ◌++◌, map, length, filter, sym, refl, ap, ◌∙◌, subst, inl, inr, append_assoc, append-nil, arith}
-use Rattle.method_resolution.specs.Types.{Candidate, None, Option, Refusal, Some}
-use Rattle.std.specs.List.{AllByRecursion as All}
+use Rattle.std.proofs.Common.{◌≡◌, ℕ, suc, ◌+◌, ◌-◌, ◌<◌, Bool, true, false, cond, not, ◌||◌, List, [], ◌∷◌, ◌++◌, map, filter, refl, ap, ◌∙◌, inl, inr, append_assoc, append-nil, arith}
+use Rattle.method_resolution.specs.Types.{Option, Refusal}
 use Rattle.std.proofs.lemmas.List.Elements.{filter-append}
 use Rattle.std.proofs.ByRecursion.{All-append}
 use Rattle.host.specs.Meaning.{listed_from, joined}
@@ -9,7 +8,6 @@ use Rattle.method_resolution.specs.Words.{gathered, First, NoneOf}
 use Rattle.method_resolution.specs.Questions.{Question}
 use Rattle.method_resolution.specs.Offers.{Offer, once, same_impl, is_impl}
 use Rattle.method_resolution.specs.Assembly.{ListName, candidate_of, goes_on, candidates_on, Fits, Overfull, Overfills}
-use Rattle.method_resolution.proofs.ListFacts.{never, member}
 use Rattle.method_resolution.proofs.AssembledLists.{candidates_on-append}
 
 -- an impl that was offered before

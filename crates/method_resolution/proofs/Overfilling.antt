@@ -1,13 +1,12 @@
 -- Which refusal assembly gives, if any, is the same for all scopes.
-use Rattle.std.proofs.Common.{◌≡◌, ℕ, suc, ◌+◌, ◌<◌, ◌≤◌, ◌⊎◌, List, [], ◌∷◌, ◌++◌, map, length, sym, refl, ap, ◌∙◌, subst, inl, inr, append_assoc, append-nil, arith, length-append}
-use lib.ListN.{length-map}
+use Rattle.std.proofs.Common.{◌≡◌, suc, ◌+◌, ◌≤◌, ◌⊎◌, List, [], ◌∷◌, ◌++◌, length, sym, refl, ap, ◌∙◌, subst, inl, inr, append_assoc, arith, length-append}
 use Rattle.std.specs.List.{AllByRecursion as All}
 use Rattle.method_resolution.specs.Types.{Refusal}
 use Rattle.method_resolution.specs.Questions.{Question, Scope}
 use Rattle.method_resolution.specs.Offers.{Offer, inherent_offers, trait_offers, offers}
 use Rattle.method_resolution.specs.Assembly as assembly
 use Rattle.method_resolution.specs.Assembly.{ListName, inherent, extension, private, candidates_on, impls_met, Fits, Overfull, Overfills}
-use Rattle.method_resolution.proofs.AssembledLists.{FromScope, FromStep, inherent_from_step, trait_offers_from_scope, candidates_on-append, extension_from_steps, inherent_from_scope, private_from_scope, few_candidates, impls_met-append, no_impls_from_scope}
+use Rattle.method_resolution.proofs.AssembledLists.{FromScope, inherent_from_step, trait_offers_from_scope, candidates_on-append, extension_from_steps, inherent_from_scope, private_from_scope, few_candidates, impls_met-append, no_impls_from_scope}
 
 -- how a cut of a list lies to another
 module _ {X : Type 0} where

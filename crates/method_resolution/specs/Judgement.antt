@@ -1,5 +1,5 @@
 -- What a list decides at a place, from its candidates that apply there.
-use Rattle.std.specs.Prelude.{◌≡◌, ℕ, ◌<◌, Bool, true, not, List, [], ◌∷◌, map, length, filter}
+use Rattle.std.specs.Prelude.{◌≡◌, ℕ, ◌<◌, true, not, List, [], ◌∷◌, map, length, filter}
 use Rattle.std.specs.List.{AllByRecursion as All}
 use Rattle.host.specs.Identity.{same_item}
 use Rattle.host.specs.Meaning.{supers_of, ◌∈◌}

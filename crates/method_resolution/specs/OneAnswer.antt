@@ -1,5 +1,5 @@
 -- Every question has one answer.
-use Rattle.std.specs.Prelude.{◌≡◌, ℕ, List, length}
+use Rattle.std.specs.Prelude.{◌≡◌, List, length}
 use Rattle.host.specs.Law.{Lawful}
 use Rattle.method_resolution.specs.Types.{ListEntry, Refusal, Result, Verdict}
 use Rattle.method_resolution.specs.Questions.{Question, Scope}

@@ -1,5 +1,5 @@
 -- When two candidates, and two entries of a caller's list, are the same.
-use Rattle.std.specs.Prelude.{Bool, true, false, ◌==◌}
+use Rattle.std.specs.Prelude.{Bool, false, ◌==◌}
 use Rattle.host.specs.Identity.{same_item}
 use Rattle.method_resolution.specs.Types.{Candidate, CandidateSource, ListEntry, Source, Shadowed}
 use Rattle.method_resolution.specs.declared.CandidateSource.TheVariants as source

@@ -1,5 +1,5 @@
 -- The verdict, and the answer with all its refusals.
-use Rattle.std.specs.Prelude.{◌≡◌, ℕ, ◌+◌, ◌<◌, ◌≤◌, Bool, true, false, List, [], ◌∷◌, ◌++◌, map, length, drop}
+use Rattle.std.specs.Prelude.{◌≡◌, ℕ, ◌+◌, ◌<◌, ◌≤◌, Bool, false, List, [], ◌∷◌, ◌++◌, map, length, drop}
 use Rattle.std.specs.List.{AllByRecursion as All}
 use Rattle.host.specs.declared.forms.Form.TheVariants as form
 use Rattle.host.specs.declared.forms.Wrap.TheVariants as wrap
@@ -9,7 +9,7 @@ use Rattle.method_resolution.specs.Questions.{Question, Scope, form_of}
 use Rattle.method_resolution.specs.Offers.{offers}
 use Rattle.method_resolution.specs.Assembly.{ListName, inherent, extension, private, Fits, Overfills}
 use Rattle.method_resolution.specs.Places.{places, applying}
-use Rattle.method_resolution.specs.Judgement.{Decision, nothing, pick, ambiguity, Judged}
+use Rattle.method_resolution.specs.Judgement.{Decision, pick, ambiguity, Judged}
 
 -- At a reference by value one more dereference is made, and a reference of its mutability is taken again.
 abbrev pub adjustment_by_value : Form → ℕ × Option AutorefOrPtrAdjustment

@@ -1,5 +1,5 @@
 -- What a command of a script does.
-use Rattle.std.specs.Prelude.{◌≡◌, ℕ, cond, ◌⊎◌, is_ok, None, Ok, Err, Option, Result}
+use Rattle.std.specs.Prelude.{◌≡◌, ℕ, cond, is_ok, Ok, Err, Option, Result}
 use Rattle.script.specs.declared.commands.Command.{Command}
 use Rattle.script.specs.declared.commands.Command.TheVariants as command
 use Rattle.registry.specs.declared.executing.Reply.{Reply}

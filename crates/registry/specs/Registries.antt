@@ -1,5 +1,5 @@
 -- The state of a registry, and what each call does to it.
-use Rattle.std.specs.Prelude.{◌≡◌, ℕ, ◌-◌, ◌^◌, ◌<◌, Bool, true, false, cond, ◌⊎◌, List, [], ◌∷◌, ◌++◌, length, is_some, Some, None, Ok, Err, vec_items, Option, Result, ◌==◌, slice_index_or}
+use Rattle.std.specs.Prelude.{◌≡◌, ℕ, ◌-◌, ◌^◌, ◌<◌, cond, ◌⊎◌, List, [], ◌∷◌, ◌++◌, length, is_some, Some, None, Ok, Err, vec_items, Option, Result, ◌==◌, slice_index_or}
 use Rattle.std.specs.List.{slice_get}
 use Rattle.host.specs.Law.{SupersLawful, empty_host}
 use Rattle.host.specs.Meaning.{Meaning}

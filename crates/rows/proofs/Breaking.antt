@@ -1,12 +1,12 @@
 -- What the search for a breach tells of the supertrait law.
-use Rattle.std.proofs.Common.{◌≡◌, ℕ, zero, suc, ◌+◌, ◌<◌, ◌≤◌, Bool, true, false, cond, not, ◌&&◌, ◌||◌, eqb, ◌⊎◌, List, [], ◌∷◌, map, length, get_or, drop, is_some, Some, None, Option, sym, refl, ap, ◌∙◌, subst, inl, inr, arith}
+use Rattle.std.proofs.Common.{◌≡◌, ℕ, ◌+◌, ◌<◌, ◌≤◌, Bool, true, false, cond, not, ◌&&◌, eqb, ◌⊎◌, List, [], ◌∷◌, length, get_or, drop, is_some, Some, None, Option, sym, refl, ap, ◌∙◌, subst, inl, inr}
 use Rattle.std.proofs.lemmas.List.{at_drop_more, at_drop_all}
-use Rattle.std.proofs.lemmas.Bool.{cases_Bool, eq-eqb, eqb-true, eqb-false, ne_eqb, or_cases, or_left, or_right, and_parts, and_from, not-true, not_from_false, both_ways}
+use Rattle.std.proofs.lemmas.Bool.{cases_Bool, eq-eqb, eqb-true, or_cases, or_left, or_right, and_parts, and_from, not-true, not_from_false, both_ways}
 use Rattle.roll.specs.Equality.{on}
 use Rattle.host.specs.Meaning.{Meaning, ◌∈◌, supers_of, listed_from, joined}
 use Rattle.host.specs.Law.{SupersLawful}
 use Rattle.rows.specs.Lists.{either}
-use Rattle.rows.specs.Breaches.{Tells, first_some, beginning, mutual_with, missing, entry_breach, breach_of}
+use Rattle.rows.specs.Breaches.{Tells, first_some, beginning, missing, entry_breach, breach_of}
 use Rattle.rows.specs.declared.laws.Breach.{Breach}
 use Rattle.rows.specs.declared.laws.Breach.TheVariants.{NotItself, Missing, Mutual}
 

@@ -5,7 +5,7 @@ use Rattle.std.proofs.lemmas.Option.{slice_get_past}
 use Rattle.std.proofs.lemmas.Bool.{cases_Bool, cases_eq, cases_lt, eq-eqb, eqb-true, ne_eqb, le-ltb, and_parts, and_from, and_left, and_right, both_ways}
 use Rattle.host.specs.Meaning.{Meaning, supers_of, listed, listed_from, joined}
 use Rattle.host.specs.Questions.{answer, askable, small}
-use Rattle.host.specs.Law.{Ends, SupersLawful, SupertraitLaw, Lawful, empty_host}
+use Rattle.host.specs.Law.{SupersLawful, SupertraitLaw, Lawful, empty_host}
 use Rattle.host.specs.declared.questions.Answer.TheVariants as reply
 use Rattle.host.specs.declared.questions.Question.{Question}
 use Rattle.host.specs.declared.questions.Question.TheVariants as asks
@@ -13,7 +13,7 @@ use Rattle.rows.specs.declared.lists.Listing.{Listing}
 use Rattle.rows.specs.declared.lists.Listing.TheVariants as list
 use Rattle.rows.specs.declared.rows.Row.{Row}
 use Rattle.rows.specs.Rows.{key_of, fits, first_row, asked_rows}
-use Rattle.rows.specs.Lists.{at, itself, default_rows, all_rows, row_at, entries, either, matched}
+use Rattle.rows.specs.Lists.{at, itself, default_rows, row_at, entries, either, matched}
 use Rattle.rows.specs.Tables.{tabled, form_in, number_in, item_of, item_in, mark_in, marks_in}
 use Rattle.rows.proofs.Answering.{no_row}
 use Rattle.rows.proofs.Gathering.{first_row-push, length-listed, askable_at}

@@ -1,5 +1,5 @@
 -- How the supertrait law breaks at a trait.
-use Rattle.std.specs.Prelude.{◌≡◌, ℕ, Bool, true, false, cond, not, ◌&&◌, List, [], ◌∷◌, Some, None, Option, ◌==◌, ◌≢◌, nat_eq}
+use Rattle.std.specs.Prelude.{◌≡◌, ℕ, cond, not, ◌&&◌, List, [], ◌∷◌, Some, None, Option, ◌==◌, ◌≢◌, nat_eq}
 use Rattle.roll.specs.Equality.{on}
 use Rattle.host.specs.Meaning.{Meaning, ◌∈◌, supers_of}
 use Rattle.host.specs.Law.{SupersLawful}

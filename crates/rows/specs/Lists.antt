@@ -1,5 +1,5 @@
 -- The lists behind the list questions.
-use Rattle.std.specs.Prelude.{◌≡◌, ℕ, ◌<◌, Bool, true, false, cond, List, [], ◌∷◌, ◌++◌, length, Some, None, Option, slice_index_or}
+use Rattle.std.specs.Prelude.{◌≡◌, ℕ, ◌<◌, cond, List, [], ◌∷◌, ◌++◌, length, Some, None, Option, slice_index_or}
 use Rattle.host.specs.Meaning.{listed}
 use Rattle.host.specs.declared.questions.Question.{Question}
 use Rattle.host.specs.declared.questions.Question.TheVariants as asks

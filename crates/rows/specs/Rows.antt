@@ -1,5 +1,5 @@
 -- Which row answers a question.
-use Rattle.std.specs.Prelude.{ℕ, Bool, true, false, cond, ◌&&◌, List, [], ◌∷◌, Some, None, Option, ◌==◌}
+use Rattle.std.specs.Prelude.{ℕ, Bool, cond, ◌&&◌, List, [], ◌∷◌, Some, None, Option, ◌==◌}
 use Rattle.host.specs.Numbers.{container_number, class_number, wrap_number, mode_number}
 use Rattle.host.specs.Questions.{askable}
 use Rattle.host.specs.declared.questions.Question.{Question}

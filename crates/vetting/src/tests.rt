@@ -33,12 +33,18 @@ fn each_number_comes_once(rt: HostRuntime) -> Result<(), Fail> {
         row(4, 1, 7, 1, 40),
         row(2, 3, 0, 0, 5),
     ];
-    assert_eq!(rt; subjects(heap, &rows, Subject::Type)?.as_slice(), &[3, 2]);
+    assert_eq!(rt;
+        subjects(heap, &rows, Subject::Type)?.as_slice(),
+        [3, 2].as_slice()
+    );
     assert_eq!(rt;
         subjects(heap, &rows, Subject::Trait)?.as_slice(),
-        &[9, 8, 7]
+        [9, 8, 7].as_slice()
     );
-    assert_eq!(rt; subjects(heap, &rows, Subject::Name)?.as_slice(), &[40, 41]);
+    assert_eq!(rt;
+        subjects(heap, &rows, Subject::Name)?.as_slice(),
+        [40, 41].as_slice()
+    );
     Ok(())
 }
 
@@ -61,7 +67,7 @@ fn a_name_in_an_impl_and_a_trait(rt: HostRuntime) -> Result<(), Fail> {
         return Err(Fail::new("the rows are lawful"));
     };
     let own = entries(heap, &table, NumberList::Own { ty: 1 })?;
-    assert_eq!(rt; own.as_slice(), &[7]);
+    assert_eq!(rt; own.as_slice(), [7].as_slice());
     let found = carriers(heap, &table, held.as_slice(), 50)?;
     assert!(rt; found.len() == 2);
     assert!(rt;

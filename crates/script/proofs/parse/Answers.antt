@@ -2,7 +2,7 @@ use Rattle.std.proofs.Common.{◌≡◌, List, ◌∷◌, get_or, Err, codes, sy
 use Rattle.std.proofs.lemmas.List.{nil_from_length}
 use Rattle.std.proofs.lemmas.Bool.{cond-false}
 use Rattle.script.specs.declared.faults.Fault.TheVariants.{UnknownCommand}
-use Rattle.script.specs.Grammar.{Text, texts, host_line, row_line, open_line, ask_line, parsed}
+use Rattle.script.specs.Grammar.{Text, texts, parsed}
 use Rattle.script.proofs.Reading.{other_text, first_word, blank, behind_words}
 use Rattle.script.proofs.parse.Goals as goal
 

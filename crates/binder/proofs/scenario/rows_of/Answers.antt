@@ -1,4 +1,4 @@
-use Rattle.std.proofs.Common.{◌≡◌, ℕ, List, [], ◌∷◌, ◌++◌, map, get_or, take, vec_items, sym, ap, ◌∙◌, rules}
+use Rattle.std.proofs.Common.{◌≡◌, List, [], ◌∷◌, ◌++◌, map, get_or, take, sym, ap, ◌∙◌, rules}
 use Rattle.std.proofs.lemmas.List.{map_more, take_all, get_or_default}
 use Rattle.rows.specs.declared.rows.Row.{Row}
 use Rattle.binder.specs.Tables.{row_of}

@@ -1,4 +1,4 @@
-use Rattle.std.proofs.Common.{◌≡◌, ◌+◌, cond, List, [], ◌∷◌, ◌++◌, get_or, drop, is_ok, vec_items, sym, ap, ◌∙◌, subst}
+use Rattle.std.proofs.Common.{◌≡◌, ◌+◌, cond, List, [], ◌∷◌, ◌++◌, get_or, drop, is_ok, vec_items, sym, ap, ◌∙◌}
 use Rattle.rows.specs.declared.rows.Row.{Row}
 use Rattle.registry.specs.Registries.{rows_of}
 use Rattle.registry.proofs.Finding.{no_line, gathered_row, passed_row, all_rows_gathered}

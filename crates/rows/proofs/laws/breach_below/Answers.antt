@@ -1,4 +1,4 @@
-use Rattle.std.proofs.Common.{◌≡◌, get_or, is_some, sym, ap, ◌∙◌}
+use Rattle.std.proofs.Common.{is_some, sym, ap, ◌∙◌}
 use Rattle.roll.specs.Rolls.{contents}
 use Rattle.rows.specs.Breaches.{first_some, entry_breach}
 use Rattle.rows.specs.Tables.{tabled}

@@ -1,8 +1,6 @@
 use Rattle.std.proofs.Common.{◌≡◌, ℕ, List, is_some, Option, sym, ap, ◌∙◌, subst}
-use Rattle.roll.specs.Rolls.{contents}
 use Rattle.host.specs.Meaning.{supers_of}
 use Rattle.rows.specs.Breaches.{Tells, first_some, beginning, entry_breach, breach_of}
-use Rattle.rows.specs.Lists.{either}
 use Rattle.rows.specs.Tables.{tabled}
 use Rattle.rows.specs.declared.laws.Breach.{Breach}
 use Rattle.rows.specs.declared.rows.Row.{Row}

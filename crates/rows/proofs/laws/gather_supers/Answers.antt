@@ -1,5 +1,5 @@
 use Rattle.std.proofs.Common.{◌≡◌, ℕ, true, List, map, Option, sym, refl, ap, ◌∙◌, arith}
-use Rattle.roll.specs.Rolls.{contents, beyond}
+use Rattle.roll.specs.Rolls.{contents}
 use Rattle.host.specs.Meaning.{supers_of}
 use Rattle.host.specs.Questions.{askable}
 use Rattle.rows.specs.Lists.{at, all_rows, Gathered}

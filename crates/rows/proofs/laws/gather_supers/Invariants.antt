@@ -1,4 +1,4 @@
-use Rattle.std.proofs.Common.{◌≡◌, ◌+◌, ◌++◌, map, length, drop}
+use Rattle.std.proofs.Common.{◌≡◌, ◌+◌, ◌++◌, length, drop}
 use Rattle.roll.specs.Rolls.{contents, beyond}
 use Rattle.rows.proofs.Gathering.{numbers_in}
 use Rattle.rows.proofs.laws.gather_supers.Given as goal

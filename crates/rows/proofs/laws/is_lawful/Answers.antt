@@ -1,4 +1,4 @@
-use Rattle.std.proofs.Common.{◌≡◌, ◌^◌, ◌<◌, ◌≤◌, get_or, sym, ap, ◌∙◌, arith, rules, below_more}
+use Rattle.std.proofs.Common.{get_or, sym, arith, rules, below_more}
 use Rattle.rows.specs.Tables.{tabled}
 use Rattle.rows.proofs.Answering.{no_row}
 use Rattle.rows.proofs.Breaking.{breach_breaks, breach_none}

@@ -1,8 +1,8 @@
-use Rattle.std.proofs.Common.{◌≡◌, ◌+◌, true, false, cond, eqb, get_or, drop, is_some, Some, None, sym, refl, ap, ◌∙◌}
+use Rattle.std.proofs.Common.{◌≡◌, true, false, cond, eqb, get_or, is_some, Some, None, sym, refl, ap, ◌∙◌}
 use Rattle.roll.specs.Equality.{on}
 use Rattle.roll.specs.Rolls.{contents}
 use Rattle.roll.proofs.Sameness.{on_from_has}
-use Rattle.rows.specs.Breaches.{first_some, missing}
+use Rattle.rows.specs.Breaches.{missing}
 use Rattle.rows.specs.declared.laws.Breach.TheVariants.{Missing}
 use Rattle.rows.proofs.Breaking.{first_here, first_later, first_end}
 use Rattle.rows.proofs.laws.missing_above.Goals as goal

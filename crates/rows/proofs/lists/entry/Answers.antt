@@ -1,6 +1,5 @@
-use Rattle.std.proofs.Common.{◌≡◌, ◌≤◌, true, length, get_or, is_some, None, sym, ap, ◌∙◌, arith, rules, below_none, below_more}
+use Rattle.std.proofs.Common.{get_or, None, sym, ap, ◌∙◌, arith, below_more}
 use Rattle.std.specs.List.{slice_get}
-use Rattle.rows.specs.Lists.{entries}
 use Rattle.rows.proofs.Gathering.{entries_are, entry_past, front_gap, front_full, not_some}
 use Rattle.rows.proofs.lists.entry.Goals as goal
 

@@ -1,6 +1,6 @@
-use Rattle.std.proofs.Common.{◌≡◌, ◌+◌, cond, get_or, drop, Some, sym, ap, ◌∙◌}
+use Rattle.std.proofs.Common.{◌+◌, cond, get_or, drop, Some, sym, ap, ◌∙◌}
 use Rattle.std.proofs.lemmas.List.{at_drop_more, at_drop_all}
-use Rattle.rows.specs.Rows.{first_row, key}
+use Rattle.rows.specs.Rows.{first_row}
 use Rattle.rows.proofs.Answering.{no_row}
 use Rattle.rows.proofs.rows.first_row.Goals as goal
 
