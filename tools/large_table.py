@@ -1,7 +1,7 @@
 #!/usr/bin/env python3
 """Writes a script that declares and opens one table: ROWS rows, of which SUPERS are of question 6.
 
-    python3 tools/large_table.py chains 50000 2000 | target/bin/binder -
+    python3 tools/large_table.py chains 50000 2000 | crates/binder/out/binder -
 
 `chains` makes many short chains of supertraits, `tower` one long one. Both are lawful.
 """
