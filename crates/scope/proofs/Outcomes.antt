@@ -1,10 +1,9 @@
 -- A call's relation determines its outcome.
-use Rattle.std.proofs.Common.{◌≡◌, ℕ, ◌+◌, ◌<◌, ◌⊎◌, List, Ok, Err, sym, refl, ap, ◌∙◌, subst, inl, inr, ⊎_elim, arith}
+use Rattle.std.proofs.Common.{◌≡◌, ℕ, List, Ok, Err, sym, refl, ap, ◌∙◌, subst, inl, inr, ⊎_elim, arith}
 use Rattle.std.proofs.lemmas.Bool.{cases_eq}
 use Rattle.host.specs.declared.refusals.Refusal.{Refusal}
 use Rattle.scope.specs.Entries.{traits_of, claims_on}
-use Rattle.scope.specs.Lists.{Distinct}
-use Rattle.scope.specs.Scopes.{held, Answer, OthersStay, Raised, Lowered, Full, Admits, Releases, Determined}
+use Rattle.scope.specs.Scopes.{held, OthersStay, Raised, Lowered, Full, Admits, Releases, Determined}
 use Rattle.scope.specs.declared.entries.Entry.{Entry}
 use Rattle.scope.specs.declared.shape.Scope.{Scope}
 use Rattle.scope.proofs.Lists.{distinct_had}

@@ -1,5 +1,5 @@
 -- What a write to the table of a scope makes of what is held.
-use Rattle.std.proofs.Common.{◌≡◌, ℕ, zero, suc, ◌+◌, ◌-◌, ◌<◌, ◌≤◌, List, [], ◌∷◌, ◌++◌, length, get_or, take, set, Ok, Err, sym, refl, ap, ◌∙◌, subst, inl, inr, ⊎_elim, arith}
+use Rattle.std.proofs.Common.{◌≡◌, ℕ, zero, suc, ◌+◌, ◌-◌, ◌<◌, ◌≤◌, List, [], ◌∷◌, length, get_or, take, set, Ok, Err, sym, refl, ap, ◌∙◌, subst, inl, inr, ⊎_elim, arith}
 use Rattle.std.specs.List.{remove}
 use Rattle.std.proofs.lemmas.List.Edits.{length-remove, get_or-remove_below, get_or-remove_above}
 use Rattle.std.proofs.lemmas.List.{get_or-take, length-take-le, same_lists, take_more_set}
@@ -10,7 +10,7 @@ use Rattle.host.specs.declared.refusals.Refusal.TheVariants.{TooManyTraits, TooM
 use Rattle.scope.specs.Entries.{traits_of, claims_on, Claimed}
 use Rattle.scope.specs.Lists.{Distinct}
 use Rattle.scope.specs.Places.{no_entry}
-use Rattle.scope.specs.Scopes.{held, Answer, Raised, Lowered, Full, Admits, Releases}
+use Rattle.scope.specs.Scopes.{held, Raised, Lowered, Full, Admits, Releases}
 use Rattle.scope.specs.declared.entries.Entry.{Entry}
 use Rattle.scope.specs.declared.shape.Scope.{Scope}
 use Rattle.scope.proofs.Lists.{distinct_had}
@@ -45,7 +45,7 @@ not_full es t room few e (inr p) = few p.1
 
 -- the ghost fields of a scope
 abbrev Fields : List Entry → ℕ → Type 0
-Fields table len = (length table ≡ 64) × ((len ≤ 64) × (∥ Distinct (traits_of (take len table)) ∥₁ × (Claimed (take len table) × Unit {0})))
+Fields table len = record { size : length table ≡ 64; few : len ≤ 64; distinct : ∥ Distinct (traits_of (take len table)) ∥₁; claimed : Claimed (take len table) }
 
 module _ (s : Scope) where
   pub held_length : length (held s) ≡ s.len
@@ -63,12 +63,12 @@ module _ (s : Scope) where
   pub after_admit : (t : ℕ) (table : List Entry) (len : ℕ) → length table ≡ 64 → len ≤ 64 → Admits (held s) t (Ok tt) (take len table) → Fields table len
   after_admit t table len size few a =
       let kept = admits_keeps (held s) t (Ok tt) (take len table) distinct claimed a in
-      (size, (few, (∣ kept.0 ∣₁, (kept.1, tt))))
+      record { size = size; few = few; distinct = ∣ kept.0 ∣₁; claimed = kept.1 }
 
   pub after_release : (t : ℕ) (table : List Entry) (len : ℕ) → length table ≡ 64 → len ≤ 64 → Releases (held s) t (Ok tt) (take len table) → Fields table len
   after_release t table len size few a =
       let kept = releases_keeps (held s) t (Ok tt) (take len table) distinct claimed a in
-      (size, (few, (∣ kept.0 ∣₁, (kept.1, tt))))
+      record { size = size; few = few; distinct = ∣ kept.0 ∣₁; claimed = kept.1 }
 
   -- the trait t is not in scope
   module _ (t : ℕ) (absent : t ∈ traits_of (held s) → ⊥) where

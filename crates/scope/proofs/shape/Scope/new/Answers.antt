@@ -2,8 +2,8 @@ use Rattle.std.proofs.Common.{refl, arith}
 use Rattle.scope.specs.Scopes.{held}
 use Rattle.scope.proofs.shape.Scope.new.Goals as goal
 
-pub invariant-of-result : goal.invariant-of-result
-invariant-of-result c = (refl, (omega arith, (∣ tt ∣₁, ((λ t m. absurd m), tt))))
+pub invariant_of-result : goal.invariant_of-result
+invariant_of-result c = record { size = refl; few = omega arith; distinct = ∣ tt ∣₁; claimed = λ t m. absurd m }
 
 pub returns : goal.returns
 unfolding held
