@@ -1,15 +1,15 @@
 -- One more candidate, and one more offer, on the lists.
-use Rattle.std.proofs.Common.{◌≡◌, ℕ, ◌+◌, ◌-◌, ◌<◌, ◌≤◌, true, false, cond, List, [], ◌∷◌, ◌++◌, length, drop, filter, sym, refl, ap, ◌∙◌, subst, append-nil, arith, length-append, length-drop}
+use Rattle.std.proofs.Common.{◌≡◌, ℕ, ◌≤◌, true, false, cond, List, [], ◌∷◌, ◌++◌, length, filter, sym, refl, ap, ◌∙◌, append-nil, arith, length-append, length-drop}
 use Rattle.roll.specs.Rolls.{contents, beyond, Pushed}
 use Rattle.roll.specs.declared.shape.Roll.{Roll}
-use Rattle.method_resolution.specs.Types.{ContainerKind, Err, None, Ok, Refusal, Result, Some, TooManyCandidates}
+use Rattle.method_resolution.specs.Types.{ContainerKind, Err, None, Ok, Refusal, Result, Some}
 use Rattle.method_resolution.specs.declared.Candidate.{Candidate}
 use Rattle.method_resolution.specs.Questions.{Question}
 use Rattle.method_resolution.specs.Offers.{Offer}
-use Rattle.method_resolution.specs.Assembly.{ListName, offered_place, container_kind, candidate_at, candidate_of, goes_on, candidates_on}
+use Rattle.method_resolution.specs.Assembly.{offered_place, container_kind, candidate_at, candidate_of, goes_on, candidates_on}
 use Rattle.method_resolution.proofs.OneMore.{candidates_more}
 use Rattle.assembly.specs.declared.lists.CandidateLists.{CandidateLists}
-use Rattle.assembly.specs.Growth.{room, list_of, Filed, ListsHold, Added}
+use Rattle.assembly.specs.Growth.{room, Filed, ListsHold, Added}
 
 -- what a push leaves of the memory
 pub same_room : {X : Type 0} (before after : Roll X) (x : X) → Pushed before x true after → room after ≡ room before

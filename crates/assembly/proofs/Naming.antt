@@ -1,5 +1,5 @@
 -- The search for a container's item, place by place.
-use Rattle.std.proofs.Common.{◌≡◌, ℕ, ◌+◌, ◌-◌, ◌<◌, ◌≤◌, true, false, cond, List, [], ◌∷◌, sym, refl, ap, ◌∙◌, arith}
+use Rattle.std.proofs.Common.{◌≡◌, ℕ, ◌+◌, ◌-◌, ◌<◌, true, false, cond, sym, refl, ap, ◌∙◌}
 use Rattle.host.specs.Meaning.{listed_from, joined}
 use Rattle.method_resolution.specs.Types.{ContainerKind, Item, Mode, None, Option, Some}
 use Rattle.method_resolution.specs.Questions.{Question}

@@ -4,14 +4,14 @@ use lib.ListN.{length-map}
 use Rattle.std.proofs.lemmas.List.{map-append}
 use Rattle.std.proofs.lemmas.List.Elements.{filter-append}
 use Rattle.roll.specs.Equality.{on, Among}
-use Rattle.roll.specs.Rolls.{contents, beyond, Pushed}
+use Rattle.roll.specs.Rolls.{contents, Pushed}
 use Rattle.roll.specs.declared.shape.Roll.{Roll}
 use Rattle.roll.proofs.Sameness.{on_from_has}
 use Rattle.method_resolution.specs.Types.{Err, Ok, Refusal, Result, TooManyCandidates, TooManyImpls}
 use Rattle.method_resolution.specs.declared.CandidateKind.{CandidateKind}
 use Rattle.method_resolution.specs.declared.CandidateKind.TheVariants.{InherentImplCandidate, ObjectCandidate, TraitCandidate, WhereClauseCandidate}
 use Rattle.method_resolution.specs.Questions.{Question}
-use Rattle.method_resolution.specs.Offers.{Offer, once, same_impl, is_impl}
+use Rattle.method_resolution.specs.Offers.{Offer, once, is_impl}
 use Rattle.method_resolution.specs.Assembly as assembly
 use Rattle.method_resolution.specs.Assembly.{ListName, candidates_on, impls_met, Fits, Overfills}
 use Rattle.method_resolution.proofs.AssembledLists.{impls_met-append}

@@ -2,18 +2,17 @@
 use Rattle.std.proofs.Common.{◌≡◌, ℕ, ◌+◌, ◌<◌, ◌≤◌, List, [], ◌∷◌, ◌++◌, length, get_or, take, sym, refl, ap, ◌∙◌, subst, append_assoc, append-nil, arith}
 use lib.ListN.{length-map}
 use Rattle.std.proofs.lemmas.List.{map-append, take_more, take_all, length-take-le}
-use Rattle.roll.specs.Rolls.{contents}
 use Rattle.scope.specs.Entries.{traits_of}
 use Rattle.scope.specs.declared.entries.Entry.{Entry}
 use Rattle.method_resolution.specs.Types.{Err, Ok, Refusal, Result}
 use Rattle.method_resolution.specs.declared.CandidateKind.TheVariants.{TraitCandidate}
 use Rattle.method_resolution.specs.Questions.{Question, Scope}
 use Rattle.method_resolution.specs.Offers.{Offer, once, inherent_offers, trait_offers, offers}
-use Rattle.method_resolution.specs.Assembly.{ListName, candidates_on, impls_met, Fits, Overfills}
+use Rattle.method_resolution.specs.Assembly.{candidates_on, impls_met, Fits, Overfills}
 use Rattle.method_resolution.proofs.OneMore.{overfills_more}
 use Rattle.method_resolution.proofs.Overfilling.{fits_any_scope, fits_at_steps, fits_not_overfills}
 use Rattle.assembly.specs.declared.lists.CandidateLists.{CandidateLists}
-use Rattle.assembly.specs.Growth.{ListsHold, Holds, Grows, impl_numbers}
+use Rattle.assembly.specs.Growth.{ListsHold, Holds, Grows}
 use Rattle.assembly.specs.Assembled.{by_steps, StepsHold, ScopeHolds, Fresh, Assembled}
 use Rattle.assembly.proofs.Offering.{new_trait}
 use Rattle.assembly.proofs.Fronts.{offer_of}

@@ -1,5 +1,5 @@
 -- What assembly leaves on the lists.
-use Rattle.std.specs.Prelude.{◌≡◌, ℕ, List, [], ◌++◌}
+use Rattle.std.specs.Prelude.{◌≡◌, List, [], ◌++◌}
 use Rattle.roll.specs.Rolls.{contents}
 use Rattle.method_resolution.specs.Types.{Err, Ok, Refusal, Result}
 use Rattle.method_resolution.specs.Words.{gathered}

@@ -1,5 +1,5 @@
 -- How the lists stand while they are made.
-use Rattle.std.specs.Prelude.{◌≡◌, ℕ, ◌+◌, ◌<◌, ◌≤◌, Bool, true, false, List, [], ◌∷◌, ◌++◌, map, length, filter}
+use Rattle.std.specs.Prelude.{◌≡◌, ℕ, ◌+◌, ◌<◌, ◌≤◌, true, List, [], ◌∷◌, ◌++◌, map, length, filter}
 use Rattle.roll.specs.Rolls.{contents, beyond}
 use Rattle.roll.specs.declared.shape.Roll.{Roll}
 use Rattle.method_resolution.specs.Types.{Err, Ok, Refusal, Result, TooManyCandidates}

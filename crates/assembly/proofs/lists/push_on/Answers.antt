@@ -1,4 +1,4 @@
-use Rattle.assembly.proofs.Growing.{one_more, full}
+use Rattle.assembly.proofs.Growing.{one_more}
 use Rattle.assembly.proofs.lists.push_on.Goals as goal
 
 pub returns-then-push : goal.returns-then-push

@@ -1,4 +1,4 @@
-use Rattle.std.proofs.Common.{◌≤◌, length, sym, ap, subst}
+use Rattle.std.proofs.Common.{◌≤◌, length, sym, subst}
 use Rattle.scope.specs.Entries.{traits_of}
 use Rattle.assembly.specs.Assembled.{ScopeHolds}
 use Rattle.assembly.specs.Contexts.{question}
@@ -11,7 +11,7 @@ loop-entry-init g c h = scope_none _ _ c.entries-entries.result.now h
 pub loop-entry-preserved : goal.loop-entry-preserved
 loop-entry-preserved g c h =
     let few = subst (λ es. length es ≤ 64) (sym c.entries-entries.ensures.are) c.entries-entries.ensures.few in
-    scope_more _ c.entries-entries.result.now few c.loop-entry.entry-index _ c.loop-entry-test.true _ (c.loop-entry.invariant h) c.assemble-offer.result _ c.assemble-offer.ensures
+    scope_more _ c.entries-entries.result.now few c.loop-entry.entry-index _ c.loop-entry-test.true _ (c.loop-entry.invariant h) c.assemble_offer.result _ c.assemble_offer.ensures
 
 pub returns : goal.returns
 returns g c h =
