@@ -1,14 +1,13 @@
-use Rattle.std.proofs.Common.{◌≡◌, not, ◌&&◌, sym, ap, ◌∙◌}
-use Rattle.host.specs.declared.forms.CandidateClass.{CandidateClass}
-use Rattle.method_resolution.specs.Places.{applies, host_says}
+use Rattle.std.proofs.Common.{not, ◌&&◌, ap, ◌∙◌}
+use Rattle.method_resolution.specs.Places.{applies, class_of, host_says}
 use Rattle.assembly.specs.Contexts.{question}
 use Rattle.probe.proofs.applying.consider_probe.Goals as goal
 
-pub returns-then-is-skipped : goal.returns-then-is-skipped
+pub returns-then-is_skipped : goal.returns-then-is_skipped
 unfolding applies
-returns-then-is-skipped g c =
+returns-then-is_skipped g c =
     let q = question g.H.Host.meaning c.args.ctx.now in
-    ap (λ b. not b && host_says q c.args.candidate c.args.place) c.if-is-skipped.ensures
+    ap (λ b. not b && host_says q c.args.candidate c.args.place) c.if-is_skipped.ensures
 
 pub returns : goal.returns
 unfolding applies
@@ -18,6 +17,6 @@ returns g c =
     let p = c.args.place in
     let m = q.meaning in
     c.applies.ensures
-    ∙ ap (λ k. m.applies k d.item.container d.item.place c.origin-of.result p.step.self_ty p.wrap q.mode) c.class-of.ensures
-    ∙ ap (λ o. m.applies _ d.item.container d.item.place o p.step.self_ty p.wrap q.mode) c.origin-of.ensures
-    ∙ ap (λ b. not b && host_says q d p) c.if-is-skipped.ensures
+    ∙ ap (λ k. m.applies k d.item.container d.item.place c.origin_of.result p.step.self_ty p.wrap q.mode) c.class_of.ensures
+    ∙ ap (λ o. m.applies (class_of d.kind) d.item.container d.item.place o p.step.self_ty p.wrap q.mode) c.origin_of.ensures
+    ∙ ap (λ b. not b && host_says q d p) c.if-is_skipped.ensures
