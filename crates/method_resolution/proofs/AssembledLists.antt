@@ -46,8 +46,8 @@ module _ (m : Meaning) (s : CandidateStep) where
   stray_from_step : All FromStep (stray_offers m s)
   stray_from_step = offers_as_all FromStep (InherentImplCandidate s.autoderefs) (λ c. refl) (listed (m.stray s.self_ty))
 
-  bounds-from-step : All FromStep (bound_offers m s)
-  bounds-from-step = offers_as_all FromStep (WhereClauseCandidate s.self_ty) (λ c. refl) (listed (m.bound s.self_ty))
+  bounds_from_step : All FromStep (bound_offers m s)
+  bounds_from_step = offers_as_all FromStep (WhereClauseCandidate s.self_ty) (λ c. refl) (listed (m.bound s.self_ty))
 
   impls_from_step : All FromStep (own_offers m s ++ stray_offers m s)
   impls_from_step = All-append FromStep (own_offers m s) (stray_offers m s) own_from_step stray_from_step
@@ -57,7 +57,7 @@ module _ (m : Meaning) (s : CandidateStep) where
   by_form_from_step form.Dynamic = All-append FromStep (object_offers m s) (own_offers m s ++ stray_offers m s) objects_from_step impls_from_step
   by_form_from_step form.Adt = impls_from_step
   by_form_from_step form.Foreign = impls_from_step
-  by_form_from_step form.Param = bounds-from-step
+  by_form_from_step form.Param = bounds_from_step
   by_form_from_step form.Plain = stray_from_step
   by_form_from_step form.Array = stray_from_step
   by_form_from_step form.RawPtrMut = stray_from_step

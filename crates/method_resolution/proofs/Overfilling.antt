@@ -113,10 +113,10 @@ module _ (q : Question) where
       step (inr p) =
           let front = p.over ++ (o.next ∷ []) in
           let whole : trait_offers ts ≡ front ++ o.after = p.ys_is ∙ cons_apart p.over o.next o.after in
-          let from-scope = all_left FromScope front o.after (subst (All FromScope) whole (trait_offers_from_scope ts)) in
+          let from_scope = all_left FromScope front o.after (subst (All FromScope) whole (trait_offers_from_scope ts)) in
           let size : length ts ≡ length front + length o.after = sym (length-offers ts) ∙ ap length whole ∙ length-append front o.after in
           let f = fits_front (inherent_offers q) p.over (subst (Fits q) p.before_is o.fits) in
-          let g = fits_with_scope front f from-scope (omega arith) in
+          let g = fits_with_scope front f from_scope (omega arith) in
           let same : inherent_offers q ++ front ≡ o.before ++ (o.next ∷ []) = sym (append_assoc (inherent_offers q) p.over (o.next ∷ [])) ∙ ap (λ l. l ++ (o.next ∷ [])) (sym p.before_is) in
           absurd (fits_not_overfull _ e (subst (Fits q) same g) o.full)
 

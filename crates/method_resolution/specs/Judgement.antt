@@ -1,6 +1,6 @@
 -- What a list decides at a place, from its candidates that apply there.
 use Rattle.std.specs.Prelude.{◌≡◌, ℕ, ◌<◌, true, not, List, [], ◌∷◌, map, length, filter}
-use Rattle.std.specs.List.{AllByRecursion as All}
+use Rattle.std.specs.List.{AllByRecursion}
 use Rattle.host.specs.Identity.{same_item}
 use Rattle.host.specs.Meaning.{supers_of, ◌∈◌}
 use Rattle.host.specs.declared.forms.ContainerKind.TheVariants.{Trait}
@@ -48,11 +48,11 @@ abbrev pub OfTrait : ℕ → Candidate → Type 0
 OfTrait tr c = (c.item.kind ≡ Trait) × (c.item.container ≡ tr)
 
 abbrev pub OfOneTrait : List Candidate → Type 0
-OfOneTrait cs = (tr : ℕ) × All (OfTrait tr) cs
+OfOneTrait cs = (tr : ℕ) × AllByRecursion (OfTrait tr) cs
 
 -- all are of traits among the supers of a trait
 abbrev pub AmongSupers : Question → ℕ → List Candidate → Type 0
-AmongSupers q tr cs = All (λ d. (d.item.kind ≡ Trait) × (d.item.container ∈ supers_of q.meaning tr)) cs
+AmongSupers q tr cs = AllByRecursion (λ d. (d.item.kind ≡ Trait) × (d.item.container ∈ supers_of q.meaning tr)) cs
 
 -- one of the candidates is of a subtrait of all the others' traits
 abbrev pub HasSubtrait : Question → List Candidate → Type 0

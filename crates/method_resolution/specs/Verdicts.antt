@@ -1,6 +1,6 @@
 -- The verdict, and the answer with all its refusals.
 use Rattle.std.specs.Prelude.{◌≡◌, ℕ, ◌+◌, ◌<◌, ◌≤◌, Bool, false, List, [], ◌∷◌, ◌++◌, map, length, drop}
-use Rattle.std.specs.List.{AllByRecursion as All}
+use Rattle.std.specs.List.{AllByRecursion}
 use Rattle.host.specs.declared.forms.Form.TheVariants as form
 use Rattle.host.specs.declared.forms.Wrap.TheVariants as wrap
 use Rattle.method_resolution.specs.Types.{Ambiguity, Autoref, AutorefOrPtrAdjustment, CandidateSource, CandidateStep, Err, Form, ItemId, ListEntry, ListTooShort, MethodError, Mut, NoMatch, None, Not, Ok, Option, Pick, Place, PrivateMatch, Refusal, Result, Shadowed, Some, Source, ToConstPtr, TooManyAutoderefs, TooManySteps, Verdict, Wrap}
@@ -101,13 +101,13 @@ FewAutoderefs step = step.autoderefs ≤ 255
 pub record Accepted (q : Question) (list : List ListEntry) : Type 0 where
   pub long : 64 ≤ length list
   pub steps : length q.steps ≤ 32
-  pub autoderefs : All FewAutoderefs q.steps
+  pub autoderefs : AllByRecursion FewAutoderefs q.steps
 
 -- All that an answer can be, from the list before: the list after, and the result. The first check that fails refuses, and a
 -- refusal leaves the list.
 pub data Answer (q : Question) (traits : Scope) (list : List ListEntry) : List ListEntry → Result Verdict Refusal → Type 0 where
   short_list : length list < 64 → Answer q traits list list (Err ListTooShort)
   many_steps : 64 ≤ length list → 32 < length q.steps → Answer q traits list list (Err TooManySteps)
-  many_autoderefs : 64 ≤ length list → length q.steps ≤ 32 → (All FewAutoderefs q.steps → ⊥) → Answer q traits list list (Err TooManyAutoderefs)
+  many_autoderefs : 64 ≤ length list → length q.steps ≤ 32 → (AllByRecursion FewAutoderefs q.steps → ⊥) → Answer q traits list list (Err TooManyAutoderefs)
   overfull : (refusal : Refusal) → Accepted q list → Overfills q (offers q traits) refusal → Answer q traits list list (Err refusal)
   verdict : (f : Finding) → Accepted q list → Fits q (offers q traits) → Finds q traits f → Answer q traits list (put_in_front f.entries list) (Ok (told f))

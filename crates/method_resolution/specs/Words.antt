@@ -1,6 +1,6 @@
 -- Words on lists that the other files use.
 use Rattle.std.specs.Prelude.{◌≡◌, ◌⊎◌, List, [], ◌∷◌, ◌++◌}
-use Rattle.std.specs.List.{AllByRecursion as All}
+use Rattle.std.specs.List.{AllByRecursion}
 
 -- what each element gives, one behind another
 abbrev pub gathered : {X Y : Type 0} → (X → List Y) → List X → List Y
@@ -14,4 +14,4 @@ First P (x ∷ xs) y = (P x × (x ≡ y)) ⊎ ((P x → ⊥) × First P xs y)
 
 -- P holds of no element
 abbrev pub NoneOf : {X : Type 0} → (X → Type 0) → List X → Type 0
-NoneOf P xs = All (λ x. P x → ⊥) xs
+NoneOf P xs = AllByRecursion (λ x. P x → ⊥) xs

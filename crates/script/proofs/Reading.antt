@@ -99,19 +99,19 @@ module _ (ws : List (Bor Text)) (found : List ℕ) (first i : ℕ) (r : Result (
       ap (λ w. behind (take i found) (numbers_from (first + i) (w ∷ drop (i + 1) (texts ws)))) (sym t) ∙
       ap (λ l. behind (take i found) (numbers_from (first + i) l)) (sym d) ∙ inv
 
-  pub loop-step : (n : ℕ) → i < length ws → i < length found → Ok n ≡ number_at (first + i) (get_or ws i blank).now →
+  pub loop_step : (n : ℕ) → i < length ws → i < length found → Ok n ≡ number_at (first + i) (get_or ws i blank).now →
       behind (take (i + 1) (set found i n)) (numbers_from (first + (i + 1)) (drop (i + 1) (texts ws))) ≡ r
-  loop-step n h k e =
+  loop_step n h k e =
       ap (λ l. behind l (numbers_from (first + (i + 1)) (drop (i + 1) (texts ws)))) (take_more_set found i n k) ∙
       ap (λ p. behind (take i found ++ n ∷ []) (numbers_from p (drop (i + 1) (texts ws)))) (sym (add_assoc first i 1)) ∙
       sym (word_read (first + i) n (get_or ws i blank).now (drop (i + 1) (texts ws)) (take i found) e) ∙ next_word h
 
-  pub loop-stop : (fault : Fault) → i < length ws → Err fault ≡ number_at (first + i) (get_or ws i blank).now → r ≡ Err fault
-  loop-stop fault h e =
+  pub loop_stop : (fault : Fault) → i < length ws → Err fault ≡ number_at (first + i) (get_or ws i blank).now → r ≡ Err fault
+  loop_stop fault h e =
       sym (next_word h) ∙ word_refused (first + i) (get_or ws i blank).now (drop (i + 1) (texts ws)) (take i found) fault e
 
-  pub loop-end : length ws ≡ i → length found ≡ i → r ≡ Ok found
-  loop-end h k =
+  pub loop_end : length ws ≡ i → length found ≡ i → r ≡ Ok found
+  loop_end h k =
       let m : length (texts ws) ≤ i = simp length-map (omega arith) in
       sym inv ∙ ap (λ l. behind (take i found) (numbers_from (first + i) l)) (drop_all i (texts ws) m) ∙
       all_read (first + i) (take i found) ∙ ap Ok (take_all i found (omega arith))

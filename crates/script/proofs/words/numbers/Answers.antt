@@ -1,7 +1,7 @@
 use Rattle.std.proofs.Common.{◌+◌, sym, ap, ◌∙◌, add-zero, arith}
 use Rattle.std.proofs.lemmas.List.{length-set, length-replicate}
 use Rattle.script.specs.Grammar.{texts, numbers_from}
-use Rattle.script.proofs.Reading.{failed, few, many, counted, none_read, loop-step, loop-stop, loop-end}
+use Rattle.script.proofs.Reading.{failed, few, many, counted, none_read, loop_step, loop_stop, loop_end}
 use Rattle.script.proofs.words.numbers.Goals as goal
 
 pub returns-then-words : goal.returns-then-words
@@ -20,7 +20,7 @@ loop-i-init g c = (
 pub loop-i-preserved : goal.loop-i-preserved
 loop-i-preserved g c = (
   simp length-set c.loop-i.invariant.0,
-  loop-step c.args.words.now c.loop-i.found c.args.first c.loop-i.i _ c.loop-i.invariant.1
+  loop_step c.args.words.now c.loop-i.found c.args.first c.loop-i.i _ c.loop-i.invariant.1
       c.in_ok-found.field-0 (omega arith) (omega (arith, c.loop-i.invariant.0)) c.in_ok-found.ensures,
 )
 
@@ -28,11 +28,11 @@ pub returns-in_err-found : goal.returns-in_err-found
 returns-in_err-found g c =
     failed c.from_residual.result c.in_err-found.field-0.0 c.from_residual.ensures.1 ∙
     sym (counted g.row.N c.args.words.now _ (omega arith) ∙
-    loop-stop c.args.words.now c.loop-i.found c.args.first c.loop-i.i _ c.loop-i.invariant.1
+    loop_stop c.args.words.now c.loop-i.found c.args.first c.loop-i.i _ c.loop-i.invariant.1
     c.in_err-found.field-0.0 (omega arith) c.in_err-found.ensures)
 
 pub returns : goal.returns
 returns g c =
     sym (counted g.row.N c.args.words.now _ (omega arith) ∙
-    loop-end c.args.words.now c.loop-i.found c.args.first c.loop-i.i _ c.loop-i.invariant.1
+    loop_end c.args.words.now c.loop-i.found c.args.first c.loop-i.i _ c.loop-i.invariant.1
     (omega arith) (omega (arith, c.loop-i.invariant.0)))
