@@ -21,6 +21,7 @@ fn play_path(rt: &HostRuntime, path: &str) -> anyhow::Result<usize> {
     }
 }
 
+// Its own complaints stand in quotes on standard error, as docs/SCRIPT.md shows.
 fn run(rt: &HostRuntime) -> anyhow::Result<()> {
     let mut args = env::args(rt)?;
     let _ = args.next();
@@ -28,10 +29,10 @@ fn run(rt: &HostRuntime) -> anyhow::Result<()> {
         return vet_harbour(rt);
     };
     if args.next().is_some() {
-        return Err(anyhow!("usage: binder [SCRIPT | -]"));
+        return Err(anyhow!("\"usage: binder [SCRIPT | -]\""));
     }
     if play_path(rt, path.as_str())? > 0 {
-        return Err(anyhow!("some lines are in error"));
+        return Err(anyhow!("\"some lines are in error\""));
     }
     Ok(())
 }

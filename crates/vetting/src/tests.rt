@@ -75,14 +75,14 @@ fn a_name_in_an_impl_and_a_trait(rt: HostRuntime) -> Result<(), Fail> {
             kind: ContainerKind::Impl,
             container: 7,
             place: 0,
-        },)
+        })
     );
     assert!(rt;
         found[1].is_same(&ItemId {
             kind: ContainerKind::Trait,
             container: 9,
             place: 1,
-        },)
+        })
     );
     Ok(())
 }
