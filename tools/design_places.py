@@ -41,7 +41,7 @@ POINTS = {
         "a match for a bool": r"=> (true|false),",
     },
     "5": {
-        "the question asked": r"question H\.Host\.meaning",
+        "the question asked": r"question H\.(Host\.)?meaning",
         "the context as a parameter": r"\b(ctx|context): &ProbeContext",
         "what is held": r"\bheld self\.",
         "the state": r"\bstate self\.",

@@ -1,6 +1,9 @@
 -- Offers one behind another.
-use Rattle.std.proofs.Common.{◌≡◌, ℕ, ◌+◌, ◌-◌, ◌<◌, ◌≤◌, cond, List, [], ◌∷◌, ◌++◌, length, get_or, take, drop, sym, refl, ap, ◌∙◌, subst, append_assoc, append-nil, arith}
-use Rattle.std.proofs.lemmas.List.{map-append, take_more, take-append-drop, take_all}
+use Rattle.std.specs.List.{flat_map}
+use Rattle.std.proofs.Common.{◌≡◌, ℕ, ◌+◌, ◌-◌, ◌<◌, ◌≤◌, cond, List, [], ◌∷◌, ◌++◌, length, get_or, take, drop, sym, ap, ◌∙◌, subst, append_assoc, append-nil, arith}
+use Rattle.std.proofs.lemmas.List.{map-append, take_more, take-append-drop}
+use Rattle.std.proofs.lemmas.Result.{err_from_is_err_and}
+use Rattle.std.specs.Result.{IsErrAnd}
 use Rattle.host.specs.Meaning.{listed, listed_from, joined, supers_of}
 use Rattle.method_resolution.specs.Types.{Err, None, Ok, Option, Refusal, Result, Some}
 use Rattle.host.specs.declared.forms.Form.TheVariants.{Dynamic}
@@ -9,10 +12,9 @@ use Rattle.method_resolution.specs.declared.CandidateKind.{CandidateKind}
 use Rattle.method_resolution.specs.declared.CandidateKind.TheVariants.{ObjectCandidate}
 use Rattle.method_resolution.specs.declared.CandidateStep.{CandidateStep}
 use Rattle.method_resolution.specs.Questions.{Question}
-use Rattle.method_resolution.specs.Words.{gathered}
 use Rattle.method_resolution.specs.Offers.{Offer, offers_as, own_offers, stray_offers, offers_by_form, step_offers, once}
 use Rattle.method_resolution.specs.Assembly.{Overfills}
-use Rattle.method_resolution.proofs.AssembledLists.{gathered-append}
+use Rattle.std.proofs.lemmas.List.Concat.{flat_map-append}
 use Rattle.method_resolution.proofs.OneMore.{met_before, once_more, overfills_more, listed_next}
 use Rattle.assembly.specs.declared.lists.CandidateLists.{CandidateLists}
 use Rattle.assembly.specs.Growth.{Holds, Grows}
@@ -37,19 +39,20 @@ offer_of kind container = record { container = container; kind = kind }
 abbrev pub Refuses : Question → CandidateLists → List Offer → Refusal → Type 0
 Refuses q before more e = (offered : List Offer) → Holds q offered before → Overfills q (once (offered ++ more)) e
 
+-- what `?` returns, at a refusal
+pub refusal_returned : (q : Question) (before after : CandidateLists) (more : List Offer) (r : Result (Unit {0}) Refusal) (e : Refusal)
+    → IsErrAnd r (λ y. y ≡ e) → Refuses q before more e → Grows q before more r after
+refusal_returned q before after more r e is g = let p = err_from_is_err_and r is in rw (p.1, p.2) g
+
 -- one growth behind another
-module _ (q : Question) (before : CandidateLists) where
-  pub grows_nothing : Grows q before [] (Ok tt) before
-  grows_nothing offered h = subst (λ os. Holds q os before) (sym (append-nil offered)) h
+module _ (q : Question) (before : CandidateLists) (xs ys : List Offer) where
+  pub grows_then : (mid : CandidateLists) → Grows q before xs (Ok tt) mid → (r : Result (Unit {0}) Refusal) (after : CandidateLists) → Grows q mid ys r after → Grows q before (xs ++ ys) r after
+  grows_then mid g (Ok u) after k offered h = subst (λ os. Holds q os after) (append_assoc offered xs ys) (k (offered ++ xs) (g offered h))
+  grows_then mid g (Err e) after k offered h = subst (λ os. Overfills q (once os) e) (append_assoc offered xs ys) (k (offered ++ xs) (g offered h))
 
-  module _ (xs ys : List Offer) where
-    pub grows_then : (mid : CandidateLists) → Grows q before xs (Ok tt) mid → (r : Result (Unit {0}) Refusal) (after : CandidateLists) → Grows q mid ys r after → Grows q before (xs ++ ys) r after
-    grows_then mid g (Ok u) after k offered h = subst (λ os. Holds q os after) (append_assoc offered xs ys) (k (offered ++ xs) (g offered h))
-    grows_then mid g (Err e) after k offered h = subst (λ os. Overfills q (once os) e) (append_assoc offered xs ys) (k (offered ++ xs) (g offered h))
-
-    -- a refusal stays, whatever would come behind
-    pub grows_refused : (e : Refusal) → Refuses q before xs e → Refuses q before (xs ++ ys) e
-    grows_refused e g offered h = subst (λ os. Overfills q (once os) e) (append_assoc offered xs ys) (refused_stays q (offered ++ xs) ys e (g offered h))
+  -- a refusal stays, whatever would come behind
+  pub grows_refused : (e : Refusal) → Refuses q before xs e → Refuses q before (xs ++ ys) e
+  grows_refused e g offered h = subst (λ os. Overfills q (once os) e) (append_assoc offered xs ys) (refused_stays q (offered ++ xs) ys e (g offered h))
 
 -- How far a list has been offered: the containers in front, and those from place p on.
 pub record OfferedUpTo (q : Question) (f : ℕ → Option ℕ) (kind : CandidateKind) (p : ℕ) (before lists : CandidateLists) : Type 0 where
@@ -58,9 +61,6 @@ pub record OfferedUpTo (q : Question) (f : ℕ → Option ℕ) (kind : Candidate
   pub grows : Grows q before (offers_as kind front) (Ok tt) lists
 
 module _ (q : Question) (f : ℕ → Option ℕ) (kind : CandidateKind) (before : CandidateLists) where
-  pub offered_none : OfferedUpTo q f kind 0 before before
-  offered_none = record { front = []; are = refl; grows = grows_nothing q before }
-
   module _ (p : ℕ) (lists : CandidateLists) (m : OfferedUpTo q f kind p before lists) where
     offered_all : listed_from f p (64 - p) ≡ [] → Grows q before (offers_as kind (listed f)) (Ok tt) lists
     offered_all e = subst (λ l. Grows q before (offers_as kind l) (Ok tt) lists) (sym (m.are ∙ ap (λ l. m.front ++ l) e ∙ append-nil m.front)) m.grows
@@ -100,31 +100,21 @@ module _ (q : Question) (step : CandidateStep) (before : CandidateLists) (ty : T
       ap (λ (t : TypeForm). offers_as (ObjectCandidate step.self_ty) (supers_of q.meaning t.definition) ++ (own_offers q.meaning step ++ stray_offers q.meaning step)) is
       ∙ ap (offers_by_form q.meaning step) (sym object ∙ ap (λ (t : TypeForm). t.form) is)
 
-  pub object_then : (mid : CandidateLists) → Grows q before (offers_as (ObjectCandidate step.self_ty) (supers_of q.meaning ty.definition)) (Ok tt) mid
-      → (r : Result (Unit {0}) Refusal) (after : CandidateLists) → Grows q mid (own_offers q.meaning step ++ stray_offers q.meaning step) r after → Grows q before (step_offers q.meaning step) r after
-  object_then mid g r after k = subst (λ os. Grows q before os r after) all_offers (grows_then q before _ _ mid g r after k)
-
   pub object_refused : (x : Refusal) → Refuses q before (offers_as (ObjectCandidate step.self_ty) (supers_of q.meaning ty.definition)) x → Refuses q before (step_offers q.meaning step) x
   object_refused x g = subst (λ os. Refuses q before os x) all_offers (grows_refused q before _ _ x g)
 
 -- the offers of one step more
 module _ (q : Question) (before : CandidateLists) (i : ℕ) (d : CandidateStep) (in-range : i < length q.steps) where
-  one_step_more : gathered (step_offers q.meaning) (take (i + 1) q.steps) ≡ gathered (step_offers q.meaning) (take i q.steps) ++ step_offers q.meaning (get_or q.steps i d)
+  one_step_more : flat_map (step_offers q.meaning) (take (i + 1) q.steps) ≡ flat_map (step_offers q.meaning) (take i q.steps) ++ step_offers q.meaning (get_or q.steps i d)
   one_step_more =
-      ap (gathered (step_offers q.meaning)) (take_more q.steps i d in-range) ∙ gathered-append (step_offers q.meaning) (take i q.steps) (get_or q.steps i d ∷ [])
-      ∙ ap (λ l. gathered (step_offers q.meaning) (take i q.steps) ++ l) (append-nil (step_offers q.meaning (get_or q.steps i d)))
+      ap (flat_map (step_offers q.meaning)) (take_more q.steps i d in-range) ∙ flat_map-append (step_offers q.meaning) (take i q.steps) (get_or q.steps i d ∷ [])
+      ∙ ap (λ l. flat_map (step_offers q.meaning) (take i q.steps) ++ l) (append-nil (step_offers q.meaning (get_or q.steps i d)))
 
-  all_steps : gathered (step_offers q.meaning) q.steps ≡ gathered (step_offers q.meaning) (take (i + 1) q.steps) ++ gathered (step_offers q.meaning) (drop (i + 1) q.steps)
-  all_steps = ap (gathered (step_offers q.meaning)) (sym (take-append-drop (i + 1) q.steps)) ∙ gathered-append (step_offers q.meaning) (take (i + 1) q.steps) (drop (i + 1) q.steps)
+  all_steps : flat_map (step_offers q.meaning) q.steps ≡ flat_map (step_offers q.meaning) (take (i + 1) q.steps) ++ flat_map (step_offers q.meaning) (drop (i + 1) q.steps)
+  all_steps = ap (flat_map (step_offers q.meaning)) (sym (take-append-drop (i + 1) q.steps)) ∙ flat_map-append (step_offers q.meaning) (take (i + 1) q.steps) (drop (i + 1) q.steps)
 
-  module _ (mid : CandidateLists) (g : Grows q before (gathered (step_offers q.meaning) (take i q.steps)) (Ok tt) mid) where
-    pub step_more : (after : CandidateLists) → Grows q mid (step_offers q.meaning (get_or q.steps i d)) (Ok tt) after → Grows q before (gathered (step_offers q.meaning) (take (i + 1) q.steps)) (Ok tt) after
-    step_more after k = subst (λ os. Grows q before os (Ok tt) after) (sym one_step_more) (grows_then q before _ _ mid g (Ok tt) after k)
-
-    pub step_refused : (x : Refusal) → Refuses q mid (step_offers q.meaning (get_or q.steps i d)) x → Refuses q before (gathered (step_offers q.meaning) q.steps) x
+  module _ (mid : CandidateLists) (g : Grows q before (flat_map (step_offers q.meaning) (take i q.steps)) (Ok tt) mid) where
+    pub step_refused : (x : Refusal) → Refuses q mid (step_offers q.meaning (get_or q.steps i d)) x → Refuses q before (flat_map (step_offers q.meaning) q.steps) x
     step_refused x k =
-        let one : Refuses q before (gathered (step_offers q.meaning) (take (i + 1) q.steps)) x = subst (λ os. Refuses q before os x) (sym one_step_more) (grows_then q before _ _ mid g (Err x) mid k) in
+        let one : Refuses q before (flat_map (step_offers q.meaning) (take (i + 1) q.steps)) x = subst (λ os. Refuses q before os x) (sym one_step_more) (grows_then q before _ _ mid g (Err x) mid k) in
         subst (λ os. Refuses q before os x) (sym all_steps) (grows_refused q before _ _ x one)
-
-pub steps_all : (q : Question) (before after : CandidateLists) (i : ℕ) → length q.steps ≤ i → Grows q before (gathered (step_offers q.meaning) (take i q.steps)) (Ok tt) after → Grows q before (gathered (step_offers q.meaning) q.steps) (Ok tt) after
-steps_all q before after i le g = subst (λ l. Grows q before (gathered (step_offers q.meaning) l) (Ok tt) after) (take_all i q.steps le) g

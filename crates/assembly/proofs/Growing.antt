@@ -1,6 +1,8 @@
 -- One more candidate, and one more offer, on the lists.
-use Rattle.std.proofs.Common.{◌≡◌, ℕ, ◌≤◌, true, false, cond, List, [], ◌∷◌, ◌++◌, length, filter, sym, refl, ap, ◌∙◌, append-nil, arith, length-append, length-drop}
+use Rattle.std.proofs.Common.{◌≡◌, ℕ, ◌<◌, ◌≤◌, true, false, cond, List, [], ◌∷◌, ◌++◌, length, filter, sym, refl, ap, ◌∙◌, append-nil, arith, length-append, length-drop}
+use Rattle.std.specs.Result.{is_ok}
 use Rattle.roll.specs.Rolls.{contents, beyond, Pushed}
+use Rattle.roll.specs.declared.shape.Full.{Full}
 use Rattle.roll.specs.declared.shape.Roll.{Roll}
 use Rattle.method_resolution.specs.Types.{ContainerKind, Err, None, Ok, Refusal, Result, Some}
 use Rattle.method_resolution.specs.declared.Candidate.{Candidate}
@@ -11,20 +13,24 @@ use Rattle.method_resolution.proofs.OneMore.{candidates_more}
 use Rattle.assembly.specs.declared.lists.CandidateLists.{CandidateLists}
 use Rattle.assembly.specs.Growth.{room, Filed, ListsHold, Added}
 
--- what a push leaves of the memory
-pub same_room : {X : Type 0} (before after : Roll X) (x : X) → Pushed before x true after → room after ≡ room before
-same_room before after x h =
+-- what a push that succeeds leaves of the memory
+same_room : {X : Type 0} (before after : Roll X) (x : X) (r : Result (Unit {0}) Full) → is_ok r ≡ true → Pushed before x r after → room after ≡ room before
+same_room before after x (Ok u) e h =
     let front = ap length h.1 ∙ length-append (contents before) (x ∷ []) in
     let back = ap length h.2 ∙ length-drop 1 (beyond before) in
     let some = h.0 in
     let one : length (x ∷ []) ≡ 1 = refl in
     omega arith
+same_room before after x (Err f) e h = cc
 
-pub one_more : {X : Type 0} (before after : Roll X) (x : X) → Pushed before x true after → (contents after ≡ contents before ++ (x ∷ [])) × (room after ≡ room before)
-one_more before after x h = (h.1, same_room before after x h)
+pub one_more : {X : Type 0} (before after : Roll X) (x : X) (r : Result (Unit {0}) Full) → is_ok r ≡ true → Pushed before x r after
+    → (0 < length (beyond before)) × (contents after ≡ contents before ++ (x ∷ [])) × (room after ≡ room before)
+one_more before after x (Ok u) e h = (h.0, h.1, same_room before after x (Ok u) e h)
+one_more before after x (Err f) e h = cc
 
-pub full : {X : Type 0} (before after : Roll X) (x : X) → Pushed before x false after → room before ≤ length (contents before)
-full before after x h = let none = h.0 in omega arith
+pub full : {X : Type 0} (before after : Roll X) (x : X) (r : Result (Unit {0}) Full) → is_ok r ≡ false → Pushed before x r after → room before ≤ length (contents before)
+full before after x (Ok u) e h = cc
+full before after x (Err f) e h = let none = h.0 in omega arith
 
 -- the candidate of an offer whose container has the item
 pub made : (q : Question) (o : Offer) (k : ContainerKind) (p : ℕ) → k ≡ container_kind o.kind → Some p ≡ offered_place q k o.container
@@ -35,10 +41,13 @@ made q o k p e f =
 
 module _ (q : Question) (os : List Offer) (o : Offer) where
   -- a container without the item adds nothing
-  pub added_nothing : (ls : CandidateLists) → None ≡ offered_place q (container_kind o.kind) o.container → ListsHold q os ls → Added q os o ls.impl_dups (Ok tt) ls
-  added_nothing ls e h = (
+  pub added_nothing : (ls : CandidateLists) (k : ContainerKind) → k ≡ container_kind o.kind → None ≡ offered_place q k o.container → ListsHold q os ls → Added q os o ls.impl_dups (Ok tt) ls
+  added_nothing ls k e f h = (
     record {
-      items = λ l. h.items l ∙ sym (candidates_more q l os o ∙ ap (λ r. candidates_on q l os ++ filter (goes_on q l) (candidate_at o r)) (sym e) ∙ append-nil (candidates_on q l os));
+      items = λ l.
+          h.items l
+          ∙ sym (candidates_more q l os o ∙ ap (λ r. candidates_on q l os ++ filter (goes_on q l) (candidate_at o r)) (ap (λ j. offered_place q j o.container) (sym e) ∙ sym f)
+          ∙ append-nil (candidates_on q l os));
       rooms = h.rooms;
     },
     refl,

@@ -1,5 +1,6 @@
 -- The search for a container's item, place by place.
-use Rattle.std.proofs.Common.{◌≡◌, ℕ, ◌+◌, ◌-◌, ◌<◌, true, false, cond, sym, refl, ap, ◌∙◌}
+use Rattle.std.specs.Bool.{then_some}
+use Rattle.std.proofs.Common.{◌≡◌, ℕ, ◌+◌, ◌-◌, ◌<◌, Bool, true, false, cond, sym, refl, ap, ◌∙◌}
 use Rattle.host.specs.Meaning.{listed_from, joined}
 use Rattle.method_resolution.specs.Types.{ContainerKind, Item, Mode, None, Option, Some}
 use Rattle.method_resolution.specs.Questions.{Question}
@@ -11,14 +12,20 @@ unfolding offered_place
 start q k c = refl
 
 module _ (f : ℕ → Option Item) (n : ℕ) (mode : Mode) (p : ℕ) (h : p < 64) where
+  served : (b : Bool) → then_some b p ≡ cond b (Some p) None
+  served true = refl
+  served false = refl
+
   next : (o : Option Item) → o ≡ f p → first_named n mode p (listed_from f p (64 - p)) ≡ first_named n mode p (joined o (listed_from f (p + 1) (64 - (p + 1))))
   next o e = ap (first_named n mode p) (listed_next f p h ∙ ap (λ i. joined i (listed_from f (p + 1) (64 - (p + 1)))) (sym e))
 
   pub absent : None ≡ f p → first_named n mode p (listed_from f p (64 - p)) ≡ None
   absent e = next None e
 
-  pub hit : (i : Item) → Some i ≡ f p → true ≡ has_name n i → first_named n mode p (listed_from f p (64 - p)) ≡ cond (serves mode i) (Some p) None
-  hit i e y = next (Some i) e ∙ ap (λ b. cond b (cond (serves mode i) (Some p) None) (first_named n mode (p + 1) (listed_from f (p + 1) (64 - (p + 1))))) (sym y)
+  pub hit : (i : Item) → Some i ≡ f p → true ≡ has_name n i → (b : Bool) → b ≡ serves mode i → then_some b p ≡ first_named n mode p (listed_from f p (64 - p))
+  hit i e y b s =
+      sym (next (Some i) e ∙ ap (λ t. cond t (cond (serves mode i) (Some p) None) (first_named n mode (p + 1) (listed_from f (p + 1) (64 - (p + 1))))) (sym y)
+      ∙ ap (λ t. cond t (Some p) None) (sym s) ∙ sym (served b))
 
   pub miss : (i : Item) → Some i ≡ f p → false ≡ has_name n i → first_named n mode p (listed_from f p (64 - p)) ≡ first_named n mode (p + 1) (listed_from f (p + 1) (64 - (p + 1)))
   miss i e y = next (Some i) e ∙ ap (λ b. cond b (cond (serves mode i) (Some p) None) (first_named n mode (p + 1) (listed_from f (p + 1) (64 - (p + 1))))) (sym y)

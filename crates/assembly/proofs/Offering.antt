@@ -1,10 +1,11 @@
 -- One more container is offered: an impl that was met, a new impl, or a trait.
 use Rattle.std.proofs.Common.{◌≡◌, ℕ, ◌+◌, ◌<◌, ◌≤◌, Bool, true, false, cond, ◌&&◌, ◌||◌, eqb, List, [], ◌∷◌, ◌++◌, map, length, Decides, filter, sym, refl, ap, ◌∙◌, subst, append-nil, arith}
-use lib.ListN.{length-map}
-use Rattle.std.proofs.lemmas.List.{map-append}
+use Rattle.std.proofs.lemmas.List.{length-map, map-append}
 use Rattle.std.proofs.lemmas.List.Elements.{filter-append}
 use Rattle.roll.specs.Equality.{on, Among}
+use Rattle.std.specs.Result.{is_ok}
 use Rattle.roll.specs.Rolls.{contents, Pushed}
+use Rattle.roll.specs.declared.shape.Full.{Full}
 use Rattle.roll.specs.declared.shape.Roll.{Roll}
 use Rattle.roll.proofs.Sameness.{on_from_has}
 use Rattle.method_resolution.specs.Types.{Err, Ok, Refusal, Result, TooManyCandidates, TooManyImpls}
@@ -90,26 +91,26 @@ module _ (q : Question) (offered : List Offer) (i n : ℕ) (lists : CandidateLis
     one_impl = impls_met-append (once offered) (impl_offer i n ∷ []) ∙ ap (λ k. k + 1) (sym (ap length h.met ∙ length-numbers (once offered)))
 
     -- a 257th impl
-    pub refused_impl : (met : Roll ℕ) → Pushed lists.impl_dups i false met → Overfills q (once (offered ++ (impl_offer i n ∷ []))) TooManyImpls
-    refused_impl met p =
-        let none = full lists.impl_dups met i p in
+    pub refused_impl : (met : Roll ℕ) (r : Result (Unit {0}) Full) → is_ok r ≡ false → Pushed lists.impl_dups i r met → Overfills q (once (offered ++ (impl_offer i n ∷ []))) TooManyImpls
+    refused_impl met r e p =
+        let none = full lists.impl_dups met i r e p in
         let memory = h.met_room in
         let one = one_impl in
         subst (λ os. Overfills q os TooManyImpls) (sym new_impl) (overfills_now q (once offered) (impl_offer i n) TooManyImpls h.fits (assembly.impls (omega arith)))
 
-    module _ (met : Roll ℕ) (p : Pushed lists.impl_dups i true met) where
+    module _ (met : Roll ℕ) (pushed : Result (Unit {0}) Full) (ok : is_ok pushed ≡ true) (p : Pushed lists.impl_dups i pushed met) where
       few_impls : impls_met (once offered ++ (impl_offer i n ∷ [])) ≤ 256
       few_impls =
-          let some = p.0 in
+          let some = (one_more lists.impl_dups met i pushed ok p).0 in
           let memory = h.met_room in
           let one = one_impl in
           omega arith
 
       pub grown_by_impl : (r : Result (Unit {0}) Refusal) (after : CandidateLists) → Added q (once offered) (impl_offer i n) met r after → Grown q (offered ++ (impl_offer i n ∷ [])) r after
       grown_by_impl (Ok u) after a =
-          let m = one_more lists.impl_dups met i p in
+          let m = one_more lists.impl_dups met i pushed ok p in
           grown q offered (impl_offer i n) lists h new_impl after few_impls a.0
-          (ap contents a.1 ∙ m.0 ∙ ap (λ l. l ++ (i ∷ [])) h.met ∙ sym (numbers-append (once offered) (impl_offer i n ∷ []))) (ap room a.1 ∙ m.1 ∙ h.met_room)
+          (ap contents a.1 ∙ m.1 ∙ ap (λ l. l ++ (i ∷ [])) h.met ∙ sym (numbers-append (once offered) (impl_offer i n ∷ []))) (ap room a.1 ∙ m.2 ∙ h.met_room)
       grown_by_impl (Err e) after a = refused q offered (impl_offer i n) lists h new_impl few_impls e a.1.0 a.0 a.1.1
 
 -- an offer that is no impl

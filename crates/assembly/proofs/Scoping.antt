@@ -1,7 +1,6 @@
 -- The traits in scope are offered one behind another, and never too many.
 use Rattle.std.proofs.Common.{◌≡◌, ℕ, ◌+◌, ◌<◌, ◌≤◌, List, [], ◌∷◌, ◌++◌, length, get_or, take, sym, refl, ap, ◌∙◌, subst, append_assoc, append-nil, arith}
-use lib.ListN.{length-map}
-use Rattle.std.proofs.lemmas.List.{map-append, take_more, take_all, length-take-le}
+use Rattle.std.proofs.lemmas.List.{length-map, map-append, take_more, length-take-le}
 use Rattle.scope.specs.Entries.{traits_of}
 use Rattle.scope.specs.declared.entries.Entry.{Entry}
 use Rattle.method_resolution.specs.Types.{Err, Ok, Refusal, Result}
@@ -13,7 +12,7 @@ use Rattle.method_resolution.proofs.OneMore.{overfills_more}
 use Rattle.method_resolution.proofs.Overfilling.{fits_any_scope, fits_at_steps, fits_not_overfills}
 use Rattle.assembly.specs.declared.lists.CandidateLists.{CandidateLists}
 use Rattle.assembly.specs.Growth.{ListsHold, Holds, Grows}
-use Rattle.assembly.specs.Assembled.{by_steps, StepsHold, ScopeHolds, Fresh, Assembled}
+use Rattle.assembly.specs.Assembled.{by_steps, ScopeHolds, Fresh, Assembled}
 use Rattle.assembly.proofs.Offering.{new_trait}
 use Rattle.assembly.proofs.Fronts.{offer_of}
 
@@ -53,12 +52,6 @@ module _ (q : Question) where
         let short = length-take-le (i + 1) es (omega arith) in
         absurd (never_refuses (traits_of (take (i + 1) es)) (omega arith) (fits_at_steps q (traits_of (take i es)) (subst (Fits q) (once_all (traits_of (take i es))) h.fits)) e
         (subst (λ os. Overfills q (once os) e) offers_more (g _ h)))
-
-  pub scope_none : (lists : CandidateLists) (es : List Entry) → StepsHold q lists → ScopeHolds q (traits_of (take 0 es)) lists
-  scope_none lists es h = subst (λ os. Holds q os lists) (sym (append-nil (by_steps q))) h
-
-  pub scope_all : (lists : CandidateLists) (es : List Entry) (i : ℕ) → length es ≤ i → ScopeHolds q (traits_of (take i es)) lists → ScopeHolds q (traits_of es) lists
-  scope_all lists es i le h = subst (λ l. ScopeHolds q (traits_of l) lists) (take_all i es le) h
 
   -- empty lists hold nothing
   pub fresh_holds : (lists : CandidateLists) → Fresh lists → Holds q [] lists

@@ -1,8 +1,7 @@
 -- What assembly leaves on the lists.
-use Rattle.std.specs.Prelude.{◌≡◌, List, [], ◌++◌}
+use Rattle.std.specs.Prelude.{◌≡◌, List, [], ◌++◌, flat_map}
 use Rattle.roll.specs.Rolls.{contents}
 use Rattle.method_resolution.specs.Types.{Err, Ok, Refusal, Result}
-use Rattle.method_resolution.specs.Words.{gathered}
 use Rattle.method_resolution.specs.Questions.{Question, Scope}
 use Rattle.method_resolution.specs.Offers.{Offer, step_offers, trait_offers, offers}
 use Rattle.method_resolution.specs.Assembly.{ListName, Fits, Overfills}
@@ -11,7 +10,7 @@ use Rattle.assembly.specs.Growth.{room, list_of, ListsHold, Holds}
 
 -- what the steps offer, with the repeats
 abbrev pub by_steps : Question → List Offer
-by_steps q = gathered (step_offers q.meaning) q.steps
+by_steps q = flat_map (step_offers q.meaning) q.steps
 
 abbrev pub StepsHold : Question → CandidateLists → Type 0
 StepsHold q lists = Holds q (by_steps q) lists

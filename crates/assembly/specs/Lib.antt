@@ -1,4 +1,4 @@
 pub mod Contexts
 pub mod Growth
-pub mod OfferLists
+pub mod Listing
 pub mod Assembled

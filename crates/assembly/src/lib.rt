@@ -10,4 +10,3 @@ mod scopes;
 
 pub use context::ProbeContext;
 pub use lists::CandidateLists;
-pub use scopes::assemble;

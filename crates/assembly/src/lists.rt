@@ -20,28 +20,25 @@ pub struct CandidateLists<'a> {
 fn push_on(list: &mut Roll<'_, Candidate>, candidate: Candidate) -> Result<(), Refusal>
     ensures { OneMore list.old candidate result list.new }
 {
-    if list.push(candidate) {
-        Ok(())
-    } else {
-        Err(Refusal::TooManyCandidates)
-    }
+    list.push(candidate).map_err(|_| Refusal::TooManyCandidates)
 }
 
-// A candidate goes on its list: of a trait in scope on the extension list, else by its visibility.
-pub(crate) fn push_candidate<H: Host>(
-    ctx: &ProbeContext<'_, H>,
-    candidate: Candidate,
-    lists: &mut CandidateLists<'_>,
-) -> Result<(), Refusal>
-    ensures { Filed (question H.Host.meaning ctx.now) candidate lists.old result lists.new }
-{
-    if let CandidateKind::TraitCandidate = candidate.kind {
-        return push_on(&mut lists.extension_candidates, candidate);
-    }
-    let item = candidate.item;
-    if ctx.host.visible(item.kind, item.container, item.place) {
-        push_on(&mut lists.inherent_candidates, candidate)
-    } else {
-        push_on(&mut lists.private_candidates, candidate)
+impl<H: Host> ProbeContext<'_, H> {
+    // A candidate goes on its list: of a trait in scope on the extension list, else by its visibility. Each list has its own
+    // call: the borrow checker does not cover a variable that holds the list chosen.
+    pub(crate) fn push_candidate(
+        &self,
+        candidate: Candidate,
+        lists: &mut CandidateLists<'_>,
+    ) -> Result<(), Refusal>
+        ensures { Filed (question H.meaning self.now) candidate lists.old result lists.new }
+    {
+        if let CandidateKind::TraitCandidate = candidate.kind {
+            push_on(&mut lists.extension_candidates, candidate)
+        } else if self.host.visible(candidate.item) {
+            push_on(&mut lists.inherent_candidates, candidate)
+        } else {
+            push_on(&mut lists.private_candidates, candidate)
+        }
     }
 }

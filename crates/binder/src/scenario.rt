@@ -1,6 +1,6 @@
 // The built-in scenario: a harbour's tables arrive, are refused, come again corrected, and are opened and listed.
 ghost use Rattle.std.specs.Prelude.{◌≡◌, map, IfOk};
-ghost use Rattle.binder.specs.Tables.{row_of};
+ghost use Rattle.rows.specs.Rows.{row_of};
 
 use rows::Row;
 use runner::{Labels, vet};
@@ -56,42 +56,19 @@ const CORRECTED: [[u32; 11]; 24] = [
     [8, 3, 0, 0, 0, 0, 0, 0, 1, 1, 0],
 ];
 
-fn row_of(numbers: [u32; 11]) -> Row
-    ensures { result ≡ row_of numbers }
-{
-    let [question, a1, a2, a3, a4, a5, a6, a7, r1, r2, r3] = numbers;
-    Row {
-        question,
-        a1,
-        a2,
-        a3,
-        a4,
-        a5,
-        a6,
-        a7,
-        r1,
-        r2,
-        r3,
-    }
-}
-
 fn rows_of(heap: Global, table: &[[u32; 11]]) -> Result<Vec<Row>, AllocError>
     ensures { IfOk result (λ v. v.items ≡ map row_of table.now) }
 {
-    let mut rows = Vec::new(heap);
-    for numbers in table {
-        rows.push(row_of(*numbers))?;
-    }
-    Ok(rows)
+    table.iter().copied().map(Row::from).collect(heap)
 }
 
 pub fn vet_harbour(rt: &HostRuntime) -> anyhow::Result<()> {
     let heap = rt.alloc();
     println!(rt; "tables of the harbour as delivered")?;
     let delivered = rows_of(heap, &DELIVERED)?;
-    let _ = vet(rt, delivered.as_slice(), LABELS)?;
+    let _ = vet(rt, &delivered, LABELS)?;
     println!(rt; "tables of the harbour as corrected")?;
     let corrected = rows_of(heap, &CORRECTED)?;
-    let _ = vet(rt, corrected.as_slice(), LABELS)?;
+    let _ = vet(rt, &corrected, LABELS)?;
     Ok(())
 }

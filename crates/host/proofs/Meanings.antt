@@ -53,11 +53,11 @@ module _ (m n : Meaning) (a : Lawful m) (b : Lawful n) (s : Alike m n) where
     form = λ t. ap (λ r. form_in r (m.form t)) (same_answer (question.Form t)) i;
     own = λ t p. ap number_in (same_answer (question.Own t p)) i;
     stray = λ t p. ap number_in (same_answer (question.Stray t p)) i;
-    item = λ k c p. ap item_in (same_answer (question.Item k c p)) i;
+    item = λ k c p. ap item_in (same_answer (question.Item (record { kind = k; container = c; place = p }))) i;
     bound = λ t p. ap number_in (same_answer (question.Bound t p)) i;
     supers = λ t p. ap number_in (same_answer (question.Supers t p)) i;
-    visible = λ k c p. ap (λ r. (marks_in r).0) (same_answer (question.Visible k c p)) i;
+    visible = λ k c p. ap (λ r. (marks_in r).0) (same_answer (question.Visible (record { kind = k; container = c; place = p }))) i;
     skips = λ t. ap marks_in (same_answer (question.Skips t)) i;
-    applies = λ k c p o t w d. ap (λ r. (marks_in r).0) (same_answer (question.Applies k c p o t w d)) i;
-    source = λ c p t w d. ap number_in (same_answer (question.Source c p t w d)) i;
+    applies = λ k c p o t w d. ap (λ r. (marks_in r).0) (same_answer (question.Applies (record { class = k; container = c; place = p; origin = o; ty = t; wrap = w; mode = d }))) i;
+    source = λ c p t w d. ap number_in (same_answer (question.Source (record { tr = c; place = p; ty = t; wrap = w; mode = d }))) i;
   }

@@ -1,5 +1,5 @@
 -- The numbers by which rows and scripts write the closed sets.
-use Rattle.std.specs.Prelude.{◌≡◌, ℕ, Some, Option}
+use Rattle.std.specs.Prelude.{◌≡◌, ℕ, Ok, Result, MatchResult}
 use Rattle.host.specs.declared.forms.ContainerKind.{ContainerKind}
 use Rattle.host.specs.declared.forms.ContainerKind.TheVariants as container
 use Rattle.host.specs.declared.forms.CandidateClass.{CandidateClass}
@@ -12,12 +12,15 @@ use Rattle.host.specs.declared.forms.Wrap.{Wrap}
 use Rattle.host.specs.declared.forms.Wrap.TheVariants as wrap
 use Rattle.host.specs.declared.forms.Mode.{Mode}
 use Rattle.host.specs.declared.forms.Mode.TheVariants as mode
+use Rattle.host.specs.declared.forms.QuestionKind.{QuestionKind}
+use Rattle.host.specs.declared.forms.QuestionKind.TheVariants as kind
+use Rattle.host.specs.declared.numbers.UnknownNumber.{UnknownNumber}
 use Rattle.host.specs.declared.refusals.Refusal.{Refusal}
 use Rattle.host.specs.declared.refusals.Refusal.TheVariants as refusal
 
--- r is what the number n stands for: some x exactly if x has that number
-abbrev pub Reads : {X : Type 0} → (X → ℕ) → ℕ → Option X → Type 0
-Reads {X} code n r = (x : X) → (r ≡ Some x → code x ≡ n) × (code x ≡ n → r ≡ Some x)
+-- r is what the number n stands for: the x that has that number, and where none has it, the number itself
+abbrev pub Reads : {X : Type 0} → (X → ℕ) → ℕ → Result X UnknownNumber → Type 0
+Reads {X} code n r = ((x : X) → code x ≡ n → r ≡ Ok x) × MatchResult r (λ x. code x ≡ n) (λ e. e.0 ≡ n)
 
 abbrev pub form_number : Form → ℕ
 form_number form.Other = 0
@@ -56,6 +59,18 @@ wrap_number wrap.ConstPtr = 3
 abbrev pub mode_number : Mode → ℕ
 mode_number mode.MethodCall = 0
 mode_number mode.Path = 1
+
+abbrev pub question_number : QuestionKind → ℕ
+question_number kind.Form = 1
+question_number kind.Own = 2
+question_number kind.Stray = 3
+question_number kind.Item = 4
+question_number kind.Bound = 5
+question_number kind.Supers = 6
+question_number kind.Visible = 7
+question_number kind.Skips = 8
+question_number kind.Applies = 9
+question_number kind.Source = 10
 
 -- the number that a refusal returns
 abbrev pub refusal_number : Refusal → ℕ

@@ -11,26 +11,26 @@ abbrev pub answer : Meaning → Question → Answer
 answer m (question.Form t) = reply.Form (m.form t)
 answer m (question.Own t p) = reply.Number (m.own t p)
 answer m (question.Stray t p) = reply.Number (m.stray t p)
-answer m (question.Item k c p) = reply.Item (m.item k c p)
+answer m (question.Item i) = reply.Item (m.item i.kind i.container i.place)
 answer m (question.Bound t p) = reply.Number (m.bound t p)
 answer m (question.Supers t p) = reply.Number (m.supers t p)
-answer m (question.Visible k c p) = reply.Mark (m.visible k c p)
+answer m (question.Visible i) = reply.Mark (m.visible i.kind i.container i.place)
 answer m (question.Skips t) = reply.Marks (m.skips t).0 (m.skips t).1
-answer m (question.Applies k c p o t w d) = reply.Mark (m.applies k c p o t w d)
-answer m (question.Source c p t w d) = reply.Number (m.source c p t w d)
+answer m (question.Applies a) = reply.Mark (m.applies a.class a.container a.place a.origin a.ty a.wrap a.mode)
+answer m (question.Source a) = reply.Number (m.source a.tr a.place a.ty a.wrap a.mode)
 
 -- the numbers in a question
 abbrev pub numbers : Question → List ℕ
 numbers (question.Form t) = t ∷ []
 numbers (question.Own t p) = t ∷ p ∷ []
 numbers (question.Stray t p) = t ∷ p ∷ []
-numbers (question.Item k c p) = c ∷ p ∷ []
+numbers (question.Item i) = i.container ∷ i.place ∷ []
 numbers (question.Bound t p) = t ∷ p ∷ []
 numbers (question.Supers t p) = t ∷ p ∷ []
-numbers (question.Visible k c p) = c ∷ p ∷ []
+numbers (question.Visible i) = i.container ∷ i.place ∷ []
 numbers (question.Skips t) = t ∷ []
-numbers (question.Applies k c p o t w d) = c ∷ p ∷ o ∷ t ∷ []
-numbers (question.Source c p t w d) = c ∷ p ∷ t ∷ []
+numbers (question.Applies a) = a.container ∷ a.place ∷ a.origin ∷ a.ty ∷ []
+numbers (question.Source a) = a.tr ∷ a.place ∷ a.ty ∷ []
 
 abbrev pub small : List ℕ → Bool
 small [] = true

@@ -4,7 +4,7 @@ ghost use Rattle.host.specs.Empty.{empty_host_lawful};
 ghost use Rattle.host.specs.Law.{empty_host};
 
 use super::Host;
-use super::forms::{CandidateClass, ContainerKind, Form, Item, Mode, TypeForm, Wrap};
+use super::forms::{Form, Item, ItemId, TraitItem, Trial, TypeForm};
 
 // Every type is of form `Other`, no container has an item, and a trait's supers are the trait alone.
 #[derive(Clone, Copy)]
@@ -31,7 +31,7 @@ impl Host for EmptyHost {
         None
     }
 
-    fn item(&self, _kind: ContainerKind, _container: u32, _place: u32) -> Option<Item> {
+    fn item(&self, _at: ItemId) -> Option<Item> {
         None
     }
 
@@ -43,7 +43,7 @@ impl Host for EmptyHost {
         if place == 0 { Some(tr) } else { None }
     }
 
-    fn visible(&self, _kind: ContainerKind, _container: u32, _place: u32) -> bool {
+    fn visible(&self, _item: ItemId) -> bool {
         false
     }
 
@@ -51,20 +51,11 @@ impl Host for EmptyHost {
         (false, false)
     }
 
-    fn applies(
-        &self,
-        _class: CandidateClass,
-        _container: u32,
-        _place: u32,
-        _origin: u32,
-        _ty: u32,
-        _wrap: Wrap,
-        _mode: Mode,
-    ) -> bool {
+    fn applies(&self, _trial: Trial) -> bool {
         false
     }
 
-    fn source(&self, _tr: u32, _place: u32, _ty: u32, _wrap: Wrap, _mode: Mode) -> Option<u32> {
+    fn source(&self, _item: TraitItem) -> Option<u32> {
         None
     }
 }

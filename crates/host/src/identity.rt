@@ -17,6 +17,6 @@ impl Same for ItemId {
     ghost transitive = { Prim.search rules };
 
     fn is_same(&self, other: &ItemId) -> bool {
-        self.kind == other.kind && self.container == other.container && self.place == other.place
+        *self == *other
     }
 }

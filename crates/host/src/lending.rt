@@ -2,7 +2,7 @@
 ghost use Rattle.std.specs.Prelude.{◌≡◌};
 
 use super::Host;
-use super::forms::{CandidateClass, ContainerKind, Item, Mode, TypeForm, Wrap};
+use super::forms::{Item, ItemId, TraitItem, Trial, TypeForm};
 
 // A host behind a shared reference, with the meaning of the host behind it.
 #[derive(Clone, Copy)]
@@ -25,8 +25,8 @@ impl<H: Host> Host for Lent<'_, H> {
         self.0.stray(ty, place)
     }
 
-    fn item(&self, kind: ContainerKind, container: u32, place: u32) -> Option<Item> {
-        self.0.item(kind, container, place)
+    fn item(&self, at: ItemId) -> Option<Item> {
+        self.0.item(at)
     }
 
     fn bound(&self, ty: u32, place: u32) -> Option<u32> {
@@ -37,29 +37,19 @@ impl<H: Host> Host for Lent<'_, H> {
         self.0.supers(tr, place)
     }
 
-    fn visible(&self, kind: ContainerKind, container: u32, place: u32) -> bool {
-        self.0.visible(kind, container, place)
+    fn visible(&self, item: ItemId) -> bool {
+        self.0.visible(item)
     }
 
     fn skips(&self, tr: u32) -> (bool, bool) {
         self.0.skips(tr)
     }
 
-    fn applies(
-        &self,
-        class: CandidateClass,
-        container: u32,
-        place: u32,
-        origin: u32,
-        ty: u32,
-        wrap: Wrap,
-        mode: Mode,
-    ) -> bool {
-        self.0
-            .applies(class, container, place, origin, ty, wrap, mode)
+    fn applies(&self, trial: Trial) -> bool {
+        self.0.applies(trial)
     }
 
-    fn source(&self, tr: u32, place: u32, ty: u32, wrap: Wrap, mode: Mode) -> Option<u32> {
-        self.0.source(tr, place, ty, wrap, mode)
+    fn source(&self, item: TraitItem) -> Option<u32> {
+        self.0.source(item)
     }
 }

@@ -15,12 +15,18 @@ mod questions;
 mod refusals;
 
 pub use empty::EmptyHost;
-pub use forms::{CandidateClass, ContainerKind, Form, Item, ItemId, Mode, Sort, TypeForm, Wrap};
+pub use forms::{
+    CandidateClass, ContainerKind, Form, Item, ItemId, Mode, QuestionKind, Sort, TraitItem, Trial,
+    TypeForm, Wrap,
+};
 pub use laws::{alike_hosts_have_one_meaning, hosts_are_lawful};
 pub use lending::Lent;
-pub use numbers::Numbered;
+pub use numbers::UnknownNumber;
 pub use questions::{Answer, Question, ask};
 pub use refusals::Refusal;
+
+// How many entries a list has at most.
+pub const MOST_ENTRIES: u32 = 64;
 
 // A host answers for the compiler's tables: ten questions about types, impls, traits and items, each by number. Asking
 // changes nothing. Questions 2 to 6 ask for one entry of a list, by its place from 0 on; past the end it is absent.
@@ -42,9 +48,9 @@ pub trait Host {
     fn stray(&self, ty: u32, place: u32) -> Option<u32>
         ensures { result ≡ (meaning self.now).stray ty place };
 
-    // 4: the items of an impl or a trait.
-    fn item(&self, kind: ContainerKind, container: u32, place: u32) -> Option<Item>
-        ensures { result ≡ (meaning self.now).item kind container place };
+    // 4: the items of an impl or a trait, by their places.
+    fn item(&self, at: ItemId) -> Option<Item>
+        ensures { result ≡ (meaning self.now).item at.kind at.container at.place };
 
     // 5: the traits by which a type parameter is bound.
     fn bound(&self, ty: u32, place: u32) -> Option<u32>
@@ -55,27 +61,18 @@ pub trait Host {
         ensures { result ≡ (meaning self.now).supers tr place };
 
     // 7: whether an item may be named from where the call stands.
-    fn visible(&self, kind: ContainerKind, container: u32, place: u32) -> bool
-        ensures { result ≡ (meaning self.now).visible kind container place };
+    fn visible(&self, item: ItemId) -> bool
+        ensures { result ≡ (meaning self.now).visible item.kind item.container item.place };
 
     // 8: whether older editions pass over a trait's methods on arrays, and on boxed slices.
     fn skips(&self, tr: u32) -> (bool, bool)
         ensures { result ≡ (meaning self.now).skips tr };
 
     // 9: whether a candidate applies to a type under a wrap.
-    fn applies(
-        &self,
-        class: CandidateClass,
-        container: u32,
-        place: u32,
-        origin: u32,
-        ty: u32,
-        wrap: Wrap,
-        mode: Mode,
-    ) -> bool
-        ensures { result ≡ (meaning self.now).applies class container place origin ty wrap mode };
+    fn applies(&self, trial: Trial) -> bool
+        ensures { result ≡ (meaning self.now).applies trial.class trial.container trial.place trial.origin trial.ty trial.wrap trial.mode };
 
     // 10: the one impl that a trait's item comes from there, if the host can tell.
-    fn source(&self, tr: u32, place: u32, ty: u32, wrap: Wrap, mode: Mode) -> Option<u32>
-        ensures { result ≡ (meaning self.now).source tr place ty wrap mode };
+    fn source(&self, item: TraitItem) -> Option<u32>
+        ensures { result ≡ (meaning self.now).source item.tr item.place item.ty item.wrap item.mode };
 }

@@ -3,59 +3,21 @@ ghost use Rattle.std.specs.Prelude.{◌≡◌};
 ghost use Rattle.host.specs.Questions.{answer};
 
 use super::Host;
-use super::forms::{CandidateClass, ContainerKind, Item, Mode, TypeForm, Wrap};
+use super::forms::{Item, ItemId, TraitItem, Trial, TypeForm};
 
 // A question with its arguments. A list is asked by place, from 0.
-#[derive(Clone, Copy, PartialEq)]
+#[derive(Clone, Copy, PartialEq, Eq)]
 pub enum Question {
-    Form {
-        ty: u32,
-    },
-    Own {
-        ty: u32,
-        place: u32,
-    },
-    Stray {
-        ty: u32,
-        place: u32,
-    },
-    Item {
-        kind: ContainerKind,
-        container: u32,
-        place: u32,
-    },
-    Bound {
-        ty: u32,
-        place: u32,
-    },
-    Supers {
-        tr: u32,
-        place: u32,
-    },
-    Visible {
-        kind: ContainerKind,
-        container: u32,
-        place: u32,
-    },
-    Skips {
-        tr: u32,
-    },
-    Applies {
-        class: CandidateClass,
-        container: u32,
-        place: u32,
-        origin: u32,
-        ty: u32,
-        wrap: Wrap,
-        mode: Mode,
-    },
-    Source {
-        tr: u32,
-        place: u32,
-        ty: u32,
-        wrap: Wrap,
-        mode: Mode,
-    },
+    Form { ty: u32 },
+    Own { ty: u32, place: u32 },
+    Stray { ty: u32, place: u32 },
+    Item(ItemId),
+    Bound { ty: u32, place: u32 },
+    Supers { tr: u32, place: u32 },
+    Visible(ItemId),
+    Skips { tr: u32 },
+    Applies(Trial),
+    Source(TraitItem),
 }
 
 #[derive(Clone, Copy)]
@@ -76,37 +38,15 @@ pub fn ask<H: Host>(host: &H, question: Question) -> Answer
         Question::Form { ty } => Answer::Form(host.form(ty)),
         Question::Own { ty, place } => Answer::Number(host.own(ty, place)),
         Question::Stray { ty, place } => Answer::Number(host.stray(ty, place)),
-        Question::Item {
-            kind,
-            container,
-            place,
-        } => Answer::Item(host.item(kind, container, place)),
+        Question::Item(at) => Answer::Item(host.item(at)),
         Question::Bound { ty, place } => Answer::Number(host.bound(ty, place)),
         Question::Supers { tr, place } => Answer::Number(host.supers(tr, place)),
-        Question::Visible {
-            kind,
-            container,
-            place,
-        } => Answer::Mark(host.visible(kind, container, place)),
+        Question::Visible(item) => Answer::Mark(host.visible(item)),
         Question::Skips { tr } => {
             let (array, boxed_slice) = host.skips(tr);
             Answer::Marks(array, boxed_slice)
         }
-        Question::Applies {
-            class,
-            container,
-            place,
-            origin,
-            ty,
-            wrap,
-            mode,
-        } => { Answer::Mark(host.applies(class, container, place, origin, ty, wrap, mode)) }
-        Question::Source {
-            tr,
-            place,
-            ty,
-            wrap,
-            mode,
-        } => { Answer::Number(host.source(tr, place, ty, wrap, mode)) }
+        Question::Applies(trial) => Answer::Mark(host.applies(trial)),
+        Question::Source(item) => Answer::Number(host.source(item)),
     }
 }

@@ -1,6 +1,6 @@
 -- There is an answer, and only one.
 use Rattle.std.proofs.Common.{◌≡◌, ◌<◌, ◌≤◌, not, ◌⊎◌, List, [], ◌∷◌, ◌++◌, length, drop, filter, sym, refl, ap, ◌∙◌, subst, inl, inr, append_assoc, append-nil, arith, length-append, length-drop}
-use lib.ListN.{length-map}
+use Rattle.std.proofs.lemmas.List.{length-map}
 use Rattle.method_resolution.specs.Types.{Candidate, CandidateSource, CandidateStep, Err, ItemId, ListEntry, Ok, Pick, Place, Refusal, Result, Shadowed, Source, TooManyCandidates, TooManyImpls, Verdict}
 use Rattle.std.specs.List.{AllByRecursion as All}
 use Rattle.std.proofs.lemmas.Bool.{cases_lt}
@@ -16,11 +16,11 @@ use Rattle.host.specs.Identity.{same_item}
 use Rattle.method_resolution.specs.Verdicts as verdicts
 use Rattle.method_resolution.specs.Verdicts.{Turn, turns, SomeApply, Undecided, Finding, Finds, Answer, Accepted, FewAutoderefs, put_in_front, told}
 use Rattle.method_resolution.specs.OneAnswer.{OneAnswer}
-use Rattle.method_resolution.proofs.ListFacts.{all_at}
+use Rattle.method_resolution.proofs.ListFacts.{all_at, filter_shorter, first_in, first_once, first_holds}
 use Rattle.method_resolution.proofs.Deciding.{finding, finding_found, by_decision}
-use Rattle.method_resolution.proofs.AssembledLists.{applying_offered, kept_shorter}
+use Rattle.method_resolution.proofs.AssembledLists.{applying_offered}
 use Rattle.method_resolution.proofs.Judging.{judged_once}
-use Rattle.method_resolution.proofs.Findings.{Ended, Privately, finds_cases, private_once, first_in, first_once, some_applies}
+use Rattle.method_resolution.proofs.Findings.{Ended, Privately, finds_cases, private_once}
 use Rattle.method_resolution.proofs.Overfilling.{fits_not_overfills, overfills_once}
 
 module _ (q : Question) where
@@ -67,25 +67,25 @@ module _ (q : Question) where
       step (inr h) (inr r) = inr (λ a. r a.1)
 
   module _ (ts : Scope) (l : List ListEntry) where
-    SomeAnswer : Type 0
+    abbrev SomeAnswer : Type 0
     SomeAnswer = (k : List ListEntry) × ((s : Result Verdict Refusal) × Answer q ts l k s)
 
-    some_answer : (k : List ListEntry) × ((s : Result Verdict Refusal) × Answer q ts l k s)
+    some_answer : SomeAnswer
     some_answer = by_list (cases_lt (length l) 64)
       where
-        by_assembly : Accepted q l → Fits q (offers q ts) ⊎ ((e : Refusal) × Overfills q (offers q ts) e) → (k : List ListEntry) × ((s : Result Verdict Refusal) × Answer q ts l k s)
+        by_assembly : Accepted q l → Fits q (offers q ts) ⊎ ((e : Refusal) × Overfills q (offers q ts) e) → SomeAnswer
         by_assembly a (inl f) = (put_in_front (finding q ts).entries l, (Ok (told (finding q ts)), verdicts.verdict (finding q ts) a f (finding_found q ts)))
         by_assembly a (inr o) = (l, (Err o.0, verdicts.overfull o.0 a o.1))
 
-        by_autoderefs : 64 ≤ length l → length q.steps ≤ 32 → All FewAutoderefs q.steps ⊎ (All FewAutoderefs q.steps → ⊥) → (k : List ListEntry) × ((s : Result Verdict Refusal) × Answer q ts l k s)
+        by_autoderefs : 64 ≤ length l → length q.steps ≤ 32 → All FewAutoderefs q.steps ⊎ (All FewAutoderefs q.steps → ⊥) → SomeAnswer
         by_autoderefs h m (inl a) = by_assembly (record { long = h; steps = m; autoderefs = a }) (fits_or_overfills [] (offers q ts) fits_nothing)
         by_autoderefs h m (inr n) = (l, (_, verdicts.many_autoderefs h m n))
 
-        by_steps : 64 ≤ length l → (32 < length q.steps) ⊎ (length q.steps ≤ 32) → (k : List ListEntry) × ((s : Result Verdict Refusal) × Answer q ts l k s)
+        by_steps : 64 ≤ length l → (32 < length q.steps) ⊎ (length q.steps ≤ 32) → SomeAnswer
         by_steps h (inl m) = (l, (_, verdicts.many_steps h m))
         by_steps h (inr m) = by_autoderefs h m (small_or_not q.steps)
 
-        by_list : (length l < 64) ⊎ (64 ≤ length l) → (k : List ListEntry) × ((s : Result Verdict Refusal) × Answer q ts l k s)
+        by_list : (length l < 64) ⊎ (64 ≤ length l) → SomeAnswer
         by_list (inl h) = (l, (_, verdicts.short_list h))
         by_list (inr h) = by_steps h (cases_lt 32 (length q.steps))
 
@@ -93,7 +93,7 @@ module _ (q : Question) where
     shadowed_few : (i : ItemId) (cs : List Candidate) → length (shadowed_by i cs) ≤ length cs
     shadowed_few i cs =
         let h = length-map (filter (λ (c : Candidate). not (same_item i c.item)) cs) (λ (c : Candidate). c.item) in
-        let k = kept_shorter q (λ (c : Candidate). not (same_item i c.item)) cs in
+        let k = filter_shorter (λ (c : Candidate). not (same_item i c.item)) cs in
         omega arith
 
     picked_few : (p : Place) (cs : List Candidate) (k : Pick) (is : List ItemId) → Judged q p cs (pick k is) → length is ≤ length cs
@@ -105,7 +105,7 @@ module _ (q : Question) where
     sources_few p cs ss (judgement.several m o s) = let h = length-map cs (judgement.source_of q p) in omega arith
 
     applying_few : Fits q (offers q ts) → (n : ListName) (p : Place) → length (applying q ts n p) ≤ 64
-    applying_few f n p = let h = kept_shorter q (applies q p) (candidates_on q n (offers q ts)) in let k = f.candidates n in omega arith
+    applying_few f n p = let h = filter_shorter (applies q p) (candidates_on q n (offers q ts)) in let k = f.candidates n in omega arith
 
     entries_few : Fits q (offers q ts) → (f : Finding) → Finds q ts f → length f.entries ≤ 64
     entries_few fit f (verdicts.decided t k is h j) = let a = picked_few t.place _ k is j in let b = applying_few fit t.list t.place in let c = length-map is Shadowed in omega arith
@@ -137,7 +137,7 @@ module _ (q : Question) where
               x.is ∙ ap (by_decision q ts x.turn.place) s ∙ ap (λ (w : Turn). by_decision q ts w.place y.decision) e ∙ sym y.is
 
           clash : (h : Finding) → Ended q ts h → Undecided q ts → ⊥
-          clash h x u = all_at (λ t. SomeApply q ts t → ⊥) (turns q) x.turn u (first_in (SomeApply q ts) (turns q) x.turn x.decides) (some_applies q ts x.turn x.decides)
+          clash h x u = all_at (λ t. SomeApply q ts t → ⊥) (turns q) x.turn u (first_in (SomeApply q ts) (turns q) x.turn x.decides) (first_holds (SomeApply q ts) (turns q) x.turn x.decides)
 
           step : Ended q ts f ⊎ (Undecided q ts × Privately q (candidates_on q private (offers q ts)) f) → Ended q ts g ⊎ (Undecided q ts × Privately q (candidates_on q private (offers q ts)) g) → f ≡ g
           step (inl x) (inl y) = ended x y

@@ -1,29 +1,26 @@
 -- How the lists depend on the scope, and what their candidates are.
-use Rattle.std.proofs.Common.{◌≡◌, ℕ, suc, ◌+◌, ◌≤◌, Bool, true, false, cond, not, ◌&&◌, List, [], ◌∷◌, ◌++◌, length, filter, sym, refl, ap, ◌∙◌, append_assoc, append-nil, arith, length-append}
+use Rattle.std.proofs.Common.{◌≡◌, ℕ, suc, ◌+◌, ◌≤◌, Bool, false, cond, not, ◌&&◌, List, [], ◌∷◌, ◌++◌, length, filter, sym, refl, ap, ◌∙◌, append-nil, arith, length-append}
 use Rattle.method_resolution.specs.Types.{Candidate, CandidateKind, CandidateStep, Form, InherentImplCandidate, None, ObjectCandidate, Option, Place, Some, TraitCandidate, WhereClauseCandidate}
-use Rattle.std.specs.List.{AllByRecursion as All}
+use Rattle.std.specs.List.{AllByRecursion as All, flat_map}
 use Rattle.std.proofs.lemmas.List.Elements.{filter-append}
-use Rattle.std.proofs.ByRecursion.{All-append, all_kept_by}
+use Rattle.std.proofs.lemmas.Grind.{flat_map-append}
 use Rattle.host.specs.Meaning.{Meaning, listed, supers_of}
 use Rattle.host.specs.declared.forms.ContainerKind.TheVariants.{Trait}
 use Rattle.host.specs.declared.forms.Form.TheVariants as form
-use Rattle.method_resolution.specs.Words.{gathered}
 use Rattle.method_resolution.specs.Questions.{Question, Scope}
 use Rattle.method_resolution.specs.Offers.{Offer, offers_as, object_offers, own_offers, stray_offers, bound_offers, offers_by_form, step_offers, once, same_impl, inherent_offers, trait_offers, offers, is_impl}
 use Rattle.method_resolution.specs.Assembly.{ListName, inherent, extension, private, offered_place, container_kind, candidate_at, candidate_of, is_trait_candidate, is_visible, goes_on, candidates_on, impls_met}
 use Rattle.method_resolution.specs.Places.{applies, applying}
+use Rattle.method_resolution.proofs.ListFacts.{all_append, all_filter, filter_shorter}
 
-pub gathered-append : {X Y : Type 0} (f : X → List Y) (xs ys : List X) → gathered f (xs ++ ys) ≡ gathered f xs ++ gathered f ys
-gathered-append f [] ys = refl
-gathered-append f (x ∷ xs) ys = ap (λ l. f x ++ l) (gathered-append f xs ys) ∙ sym (append_assoc (f x) (gathered f xs) (gathered f ys))
+-- what the offers give, one behind another
+filter-flat_map : {X Y : Type 0} (test : Y → Bool) (f : X → List Y) (xs : List X) → filter test (flat_map f xs) ≡ flat_map (λ x. filter test (f x)) xs
+filter-flat_map test f [] = refl
+filter-flat_map test f (x ∷ xs) = filter-append test (f x) (flat_map f xs) ∙ ap (λ l. filter test (f x) ++ l) (filter-flat_map test f xs)
 
-pub kept_by_gathered : {X Y : Type 0} (test : Y → Bool) (f : X → List Y) (xs : List X) → filter test (gathered f xs) ≡ gathered (λ x. filter test (f x)) xs
-kept_by_gathered test f [] = refl
-kept_by_gathered test f (x ∷ xs) = filter-append test (f x) (gathered f xs) ∙ ap (λ l. filter test (f x) ++ l) (kept_by_gathered test f xs)
-
-pub all_gathered : {X Y : Type 0} (P : Y → Type 0) (f : X → List Y) → ((x : X) → All P (f x)) → (xs : List X) → All P (gathered f xs)
-all_gathered P f h [] = tt
-all_gathered P f h (x ∷ xs) = All-append P (f x) (gathered f xs) (h x) (all_gathered P f h xs)
+all_flat_map : {X Y : Type 0} (P : Y → Type 0) (f : X → List Y) → ((x : X) → All P (f x)) → (xs : List X) → All P (flat_map f xs)
+all_flat_map P f h [] = tt
+all_flat_map P f h (x ∷ xs) = all_append P (f x) (flat_map f xs) (h x) (all_flat_map P f h xs)
 
 -- offers of traits in scope, and other offers
 abbrev pub FromScope : Offer → Type 0
@@ -50,11 +47,11 @@ module _ (m : Meaning) (s : CandidateStep) where
   bounds_from_step = offers_as_all FromStep (WhereClauseCandidate s.self_ty) (λ c. refl) (listed (m.bound s.self_ty))
 
   impls_from_step : All FromStep (own_offers m s ++ stray_offers m s)
-  impls_from_step = All-append FromStep (own_offers m s) (stray_offers m s) own_from_step stray_from_step
+  impls_from_step = all_append FromStep (own_offers m s) (stray_offers m s) own_from_step stray_from_step
 
   by_form_from_step : (f : Form) → All FromStep (offers_by_form m s f)
   by_form_from_step form.Other = tt
-  by_form_from_step form.Dynamic = All-append FromStep (object_offers m s) (own_offers m s ++ stray_offers m s) objects_from_step impls_from_step
+  by_form_from_step form.Dynamic = all_append FromStep (object_offers m s) (own_offers m s ++ stray_offers m s) objects_from_step impls_from_step
   by_form_from_step form.Adt = impls_from_step
   by_form_from_step form.Foreign = impls_from_step
   by_form_from_step form.Param = bounds_from_step
@@ -67,11 +64,11 @@ module _ (m : Meaning) (s : CandidateStep) where
 
 once_all : (P : Offer → Type 0) (os : List Offer) → All P os → All P (once os)
 once_all P [] a = tt
-once_all P (o ∷ os) a = (a.0, all_kept_by (λ p. not (same_impl o p)) P (once os) (once_all P os a.1))
+once_all P (o ∷ os) a = (a.0, all_filter (λ p. not (same_impl o p)) P (once os) (once_all P os a.1))
 
 pub inherent_from_step : (q : Question) → All FromStep (inherent_offers q)
 unfolding inherent_offers
-inherent_from_step q = once_all FromStep _ (all_gathered FromStep (step_offers q.meaning) (λ s. by_form_from_step q.meaning s _) q.steps)
+inherent_from_step q = once_all FromStep _ (all_flat_map FromStep (step_offers q.meaning) (λ s. by_form_from_step q.meaning s _) q.steps)
 
 pub trait_offers_from_scope : (ts : Scope) → All FromScope (trait_offers ts)
 trait_offers_from_scope ts = offers_as_all FromScope TraitCandidate (λ c. refl) ts
@@ -79,15 +76,15 @@ trait_offers_from_scope ts = offers_as_all FromScope TraitCandidate (λ c. refl)
 module _ (q : Question) where
   pub candidates_on-append : (l : ListName) (os ps : List Offer) → candidates_on q l (os ++ ps) ≡ candidates_on q l os ++ candidates_on q l ps
   unfolding candidates_on
-  candidates_on-append l os ps = ap (filter (goes_on q l)) (gathered-append (candidate_of q) os ps) ∙ filter-append (goes_on q l) (gathered (candidate_of q) os) (gathered (candidate_of q) ps)
+  candidates_on-append l os ps = ap (filter (goes_on q l)) (flat_map-append (candidate_of q) os ps) ∙ filter-append (goes_on q l) (flat_map (candidate_of q) os) (flat_map (candidate_of q) ps)
 
   -- a list takes nothing from offers whose candidate it does not take
   takes_nothing : (l : ListName) (P : Offer → Type 0) → ((o : Offer) → P o → (c : Candidate) → c.kind ≡ o.kind → goes_on q l c ≡ false) → (os : List Offer) → All P os → candidates_on q l os ≡ []
   unfolding candidates_on
   takes_nothing l P h [] a = refl
   takes_nothing l P h (o ∷ os) a =
-      filter-append (goes_on q l) (candidate_of q o) (gathered (candidate_of q) os)
-      ∙ ap (λ r. r ++ filter (goes_on q l) (gathered (candidate_of q) os)) (one (offered_place q (container_kind o.kind) o.container) (h o a.0))
+      filter-append (goes_on q l) (candidate_of q o) (flat_map (candidate_of q) os)
+      ∙ ap (λ r. r ++ filter (goes_on q l) (flat_map (candidate_of q) os)) (one (offered_place q (container_kind o.kind) o.container) (h o a.0))
       ∙ takes_nothing l P h os a.1
     where
       one : (r : Option ℕ) → ((c : Candidate) → c.kind ≡ o.kind → goes_on q l c ≡ false) → filter (goes_on q l) (candidate_at o r) ≡ []
@@ -119,20 +116,20 @@ module _ (q : Question) where
   abbrev pub applying_of : Place → ℕ → List Candidate
   applying_of p t = filter (applies q p) (candidate_of q (trait_offer t))
 
-  extension_of_traits : (ts : Scope) → candidates_on q extension (trait_offers ts) ≡ gathered (λ t. candidate_of q (trait_offer t)) ts
+  extension_of_traits : (ts : Scope) → candidates_on q extension (trait_offers ts) ≡ flat_map (λ t. candidate_of q (trait_offer t)) ts
   unfolding candidates_on
   extension_of_traits [] = refl
   extension_of_traits (t ∷ ts) =
-      filter-append (goes_on q extension) (candidate_of q (trait_offer t)) (gathered (candidate_of q) (trait_offers ts))
-      ∙ ap (λ l. l ++ filter (goes_on q extension) (gathered (candidate_of q) (trait_offers ts))) (one (offered_place q Trait t))
+      filter-append (goes_on q extension) (candidate_of q (trait_offer t)) (flat_map (candidate_of q) (trait_offers ts))
+      ∙ ap (λ l. l ++ filter (goes_on q extension) (flat_map (candidate_of q) (trait_offers ts))) (one (offered_place q Trait t))
       ∙ ap (λ l. candidate_of q (trait_offer t) ++ l) (extension_of_traits ts)
     where
       one : (r : Option ℕ) → filter (goes_on q extension) (candidate_at (trait_offer t) r) ≡ candidate_at (trait_offer t) r
       one None = refl
       one (Some p) = refl
 
-  pub applying_extension : (ts : Scope) (p : Place) → applying q ts extension p ≡ gathered (applying_of p) ts
-  applying_extension ts p = ap (filter (applies q p)) (extension_list ts ∙ extension_of_traits ts) ∙ kept_by_gathered (applies q p) (λ t. candidate_of q (trait_offer t)) ts
+  pub applying_extension : (ts : Scope) (p : Place) → applying q ts extension p ≡ flat_map (applying_of p) ts
+  applying_extension ts p = ap (filter (applies q p)) (extension_list ts ∙ extension_of_traits ts) ∙ filter-flat_map (applies q p) (λ t. candidate_of q (trait_offer t)) ts
 
   -- The item is the one that its container offers.
   abbrev pub Offered : Candidate → Type 0
@@ -144,10 +141,10 @@ module _ (q : Question) where
 
   pub list_offered : (l : ListName) (os : List Offer) → All Offered (candidates_on q l os)
   unfolding candidates_on
-  list_offered l os = all_kept_by (goes_on q l) Offered _ (all_gathered Offered (candidate_of q) (λ o. candidate_offered o _ refl) os)
+  list_offered l os = all_filter (goes_on q l) Offered _ (all_flat_map Offered (candidate_of q) (λ o. candidate_offered o _ refl) os)
 
   pub applying_offered : (ts : Scope) (l : ListName) (p : Place) → All Offered (applying q ts l p)
-  applying_offered ts l p = all_kept_by (applies q p) Offered _ (list_offered l (offers q ts))
+  applying_offered ts l p = all_filter (applies q p) Offered _ (list_offered l (offers q ts))
 
   -- so a trait's candidates have one item
   pub one_item : (c d : Candidate) → Offered c → Offered d → c.item.kind ≡ d.item.kind → c.item.container ≡ d.item.container → c.item ≡ d.item
@@ -158,34 +155,26 @@ module _ (q : Question) where
 
   -- a trait's candidate at a place is of that trait
   pub applying_of_trait : (p : Place) (t : ℕ) → All (λ (c : Candidate). (c.item.kind ≡ Trait) × (c.item.container ≡ t)) (applying_of p t)
-  applying_of_trait p t = all_kept_by (applies q p) _ _ (one (offered_place q Trait t))
+  applying_of_trait p t = all_filter (applies q p) _ _ (one (offered_place q Trait t))
     where
       one : (r : Option ℕ) → All (λ (c : Candidate). (c.item.kind ≡ Trait) × (c.item.container ≡ t)) (candidate_at (trait_offer t) r)
       one None = tt
       one (Some n) = ((refl, refl), tt)
 
   -- no more candidates than offers
-  pub kept_shorter : {X : Type 0} (f : X → Bool) (xs : List X) → length (filter f xs) ≤ length xs
-  kept_shorter f [] = omega arith
-  kept_shorter f (x ∷ xs) = step (f x) (kept_shorter f xs)
+  flat_map_few : (os : List Offer) → length (flat_map (candidate_of q) os) ≤ length os
+  flat_map_few [] = omega arith
+  flat_map_few (o ∷ os) = step (offered_place q (container_kind o.kind) o.container) (flat_map_few os)
     where
-      step : (b : Bool) → length (filter f xs) ≤ length xs → length (cond b (x ∷ filter f xs) (filter f xs)) ≤ suc (length xs)
-      step true h = omega arith
-      step false h = omega arith
-
-  gathered_few : (os : List Offer) → length (gathered (candidate_of q) os) ≤ length os
-  gathered_few [] = omega arith
-  gathered_few (o ∷ os) = step (offered_place q (container_kind o.kind) o.container) (gathered_few os)
-    where
-      step : (r : Option ℕ) → length (gathered (candidate_of q) os) ≤ length os → length (candidate_at o r ++ gathered (candidate_of q) os) ≤ suc (length os)
+      step : (r : Option ℕ) → length (flat_map (candidate_of q) os) ≤ length os → length (candidate_at o r ++ flat_map (candidate_of q) os) ≤ suc (length os)
       step None h = omega arith
       step (Some p) h = omega arith
 
   pub few_candidates : (l : ListName) (os : List Offer) → length (candidates_on q l os) ≤ length os
   unfolding candidates_on
   few_candidates l os =
-      let h = kept_shorter (goes_on q l) (gathered (candidate_of q) os) in
-      let k = gathered_few os in
+      let h = filter_shorter (goes_on q l) (flat_map (candidate_of q) os) in
+      let k = flat_map_few os in
       omega arith
 
 pub impls_met-append : (os ps : List Offer) → impls_met (os ++ ps) ≡ impls_met os + impls_met ps

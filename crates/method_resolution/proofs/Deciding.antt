@@ -1,8 +1,8 @@
 -- A verdict can be computed.
-use Rattle.std.proofs.Common.{◌≡◌, ℕ, ◌<◌, Bool, true, false, cond, ◌&&◌, eqb, ◌⊎◌, List, [], ◌∷◌, map, length, sym, refl, ap, subst, inl, inr, arith}
+use Rattle.std.proofs.Common.{◌≡◌, ℕ, ◌<◌, Bool, true, false, ◌&&◌, eqb, List, [], ◌∷◌, map, length, sym, refl, ap, subst, inl, inr, arith}
 use Rattle.method_resolution.specs.Types.{Ambiguity, Candidate, ContainerKind, Err, ItemId, NoMatch, None, Ok, Option, Pick, Place, PrivateMatch, Shadowed, Some, Source}
-use Rattle.std.specs.List.{AllByRecursion as All}
-use Rattle.std.proofs.lemmas.Bool.{and_parts, and_from, eqb-true, eq-eqb}
+use Rattle.std.specs.List.{AllByRecursion as All, find, list_all}
+use Rattle.std.proofs.lemmas.Bool.{both_ways, and_parts, and_from, eqb-true, eq-eqb}
 use Rattle.host.specs.Meaning.{◌∈◌, supers_of}
 use Rattle.host.specs.declared.forms.ContainerKind.TheVariants.{Impl, Trait}
 use Rattle.method_resolution.specs.Words.{First, NoneOf}
@@ -13,14 +13,14 @@ use Rattle.method_resolution.specs.Judgement as judgement
 use Rattle.method_resolution.specs.Judgement.{Decision, nothing, pick, ambiguity, Judged, OfTrait, OfOneTrait, AmongSupers, HasSubtrait, pick_of, trait_pick_of, shadowed_by, source_of}
 use Rattle.method_resolution.specs.Verdicts as verdicts
 use Rattle.method_resolution.specs.Verdicts.{Turn, turns, SomeApply, Decides, Undecided, GivesPrivatePick, JudgedPrivately, Finding, Finds, adjusted}
-use Rattle.method_resolution.proofs.ListFacts.{never, all_of, all_of_says, all_of_from, member, member_says, member_from}
+use Rattle.method_resolution.proofs.ListFacts.{all_at, all_of_says, all_of_from, first_from_find, none_from_find, first_in, first_holds, member, member_says, member_from}
 
 abbrev pub is_trait : ContainerKind → Bool
 is_trait Impl = false
 is_trait Trait = true
 
 is_trait_says : (k : ContainerKind) → is_trait k ≡ true → k ≡ Trait
-is_trait_says Impl e = absurd (never false e refl)
+is_trait_says Impl e = cc
 is_trait_says Trait e = refl
 
 abbrev pub is_of_trait : ℕ → Candidate → Bool
@@ -38,42 +38,29 @@ of_trait_from : (t : ℕ) (c : Candidate) → OfTrait t c → is_of_trait t c �
 of_trait_from t c h = and_from (is_trait c.item.kind) (eqb c.item.container t) (ap is_trait h.0) (eq-eqb _ _ h.1)
 
 module _ (q : Question) where
-  Among : ℕ → Candidate → Type 0
+  abbrev Among : ℕ → Candidate → Type 0
   Among t d = (d.item.kind ≡ Trait) × (d.item.container ∈ supers_of q.meaning t)
 
-  among_says : (t : ℕ) (c : Candidate) → is_among q t c ≡ true → (c.item.kind ≡ Trait) × (c.item.container ∈ supers_of q.meaning t)
+  among_says : (t : ℕ) (c : Candidate) → is_among q t c ≡ true → Among t c
   among_says t c e =
       let h = and_parts (is_trait c.item.kind) (member c.item.container (supers_of q.meaning t)) e in
       (is_trait_says _ h.0, member_says _ _ h.1)
 
-  among_from : (t : ℕ) (c : Candidate) → (c.item.kind ≡ Trait) × (c.item.container ∈ supers_of q.meaning t) → is_among q t c ≡ true
+  among_from : (t : ℕ) (c : Candidate) → Among t c → is_among q t c ≡ true
   among_from t c h = and_from (is_trait c.item.kind) (member c.item.container (supers_of q.meaning t)) (ap is_trait h.0) (member_from _ _ h.1)
 
-  abbrev pub first_over : List Candidate → List Candidate → Option Candidate
-  first_over all [] = None
-  first_over all (c ∷ cs) = cond (all_of (is_among q c.item.container) all) (Some c) (first_over all cs)
+  -- a candidate whose trait is above those of all
+  abbrev Over : List Candidate → Candidate → Type 0
+  Over all c = AmongSupers q c.item.container all
 
-  Over : List Candidate → List Candidate → Candidate → Type 0
-  Over all cs c = (c ∈ cs) × AmongSupers q c.item.container all
+  abbrev pub is_over : List Candidate → Candidate → Bool
+  is_over all c = list_all (is_among q c.item.container) all
 
-  over_found : (all cs : List Candidate) (c : Candidate) → first_over all cs ≡ Some c → (c ∈ cs) × AmongSupers q c.item.container all
-  over_found all [] c e = absurd (let z : ◌≡◌ {A = ℕ} 0 1 = cc in omega arith)
-  over_found all (d ∷ ds) c e = step (λ k. over_found all ds c k) (all_of (is_among q d.item.container) all) refl e
-    where
-      step : (first_over all ds ≡ Some c → (c ∈ ds) × AmongSupers q c.item.container all) → (b : Bool) → all_of (is_among q d.item.container) all ≡ b → cond b (Some d) (first_over all ds) ≡ Some c → (c ∈ (d ∷ ds)) × AmongSupers q c.item.container all
-      step rest true h k =
-          let same : d ≡ c = cc in
-          (inl (sym same), subst (λ (x : Candidate). AmongSupers q x.item.container all) same (all_of_says _ (is_among q d.item.container) (among_says d.item.container) all h))
-      step rest false h k = (inr (rest k).0, (rest k).1)
+  over_says : (all : List Candidate) (c : Candidate) → is_over all c ≡ true → Over all c
+  over_says all c e = all_of_says _ (is_among q c.item.container) (among_says c.item.container) all e
 
-  over_none : (all cs : List Candidate) → first_over all cs ≡ None → (c : Candidate) → c ∈ cs → AmongSupers q c.item.container all → ⊥
-  over_none all [] e c m a = m
-  over_none all (d ∷ ds) e c m a = step (λ k m'. over_none all ds k c m' a) (all_of (is_among q d.item.container) all) refl e m
-    where
-      step : (first_over all ds ≡ None → c ∈ ds → ⊥) → (b : Bool) → all_of (is_among q d.item.container) all ≡ b → cond b (Some d) (first_over all ds) ≡ None → (c ≡ d) ⊎ (c ∈ ds) → ⊥
-      step rest true h k m' = let z : ◌≡◌ {A = ℕ} 0 1 = cc in omega arith
-      step rest false h k (inl s) = never _ (all_of_from _ (is_among q d.item.container) (among_from d.item.container) all (subst (λ (x : Candidate). AmongSupers q x.item.container all) s a)) h
-      step rest false h k (inr m') = rest k m'
+  over_denies : (all : List Candidate) (c : Candidate) → is_over all c ≡ false → Over all c → ⊥
+  over_denies all c e a = both_ways _ e (all_of_from _ (is_among q c.item.container) (among_from c.item.container) all a)
 
   module _ (p : Place) where
     abbrev pub judge_by_subtrait : List Candidate → Option Candidate → Decision
@@ -82,23 +69,23 @@ module _ (q : Question) where
 
     abbrev pub judge_several : Candidate → List Candidate → Bool → Bool → Decision
     judge_several c cs true s = pick (trait_pick_of p c.item) []
-    judge_several c cs false true = judge_by_subtrait cs (first_over cs cs)
+    judge_several c cs false true = judge_by_subtrait cs (find (is_over cs) cs)
     judge_several c cs false false = ambiguity (map (source_of q p) cs)
 
     abbrev pub judge : List Candidate → Decision
     judge [] = nothing
     judge (c ∷ []) = pick (pick_of p c) []
-    judge (c ∷ (d ∷ cs)) = judge_several c (c ∷ (d ∷ cs)) (all_of (is_of_trait c.item.container) (c ∷ (d ∷ cs))) q.settings.supertrait_item_shadowing
+    judge (c ∷ (d ∷ cs)) = judge_several c (c ∷ (d ∷ cs)) (list_all (is_of_trait c.item.container) (c ∷ (d ∷ cs))) q.settings.supertrait_item_shadowing
 
     module _ (cs : List Candidate) (many : 1 < length cs) where
-      subtrait_judged : (OfOneTrait cs → ⊥) → q.settings.supertrait_item_shadowing ≡ true → (o : Option Candidate) → first_over cs cs ≡ o → Judged q p cs (judge_by_subtrait cs o)
-      subtrait_judged n s None e = judgement.several many n (λ _ h. over_none cs cs e h.0 h.1.0 h.1.1)
-      subtrait_judged n s (Some c) e = let h = over_found cs cs c e in judgement.subtrait c many n s h.0 h.1
+      subtrait_judged : (OfOneTrait cs → ⊥) → q.settings.supertrait_item_shadowing ≡ true → (o : Option Candidate) → find (is_over cs) cs ≡ o → Judged q p cs (judge_by_subtrait cs o)
+      subtrait_judged n s None e = judgement.several many n (λ _ h. all_at (λ c. Over cs c → ⊥) cs h.0 (none_from_find (Over cs) (is_over cs) (over_says cs) (over_denies cs) cs e) h.1.0 h.1.1)
+      subtrait_judged n s (Some c) e = let h = first_from_find (Over cs) (is_over cs) (over_says cs) (over_denies cs) cs c e in judgement.subtrait c many n s (first_in (Over cs) cs c h) (first_holds (Over cs) cs c h)
 
-      several_judged : (c : Candidate) → c ∈ cs → ((t : ℕ) → All (OfTrait t) cs → c.item.container ≡ t) → (one shadow : Bool) → all_of (is_of_trait c.item.container) cs ≡ one → q.settings.supertrait_item_shadowing ≡ shadow → Judged q p cs (judge_several c cs one shadow)
+      several_judged : (c : Candidate) → c ∈ cs → ((t : ℕ) → All (OfTrait t) cs → c.item.container ≡ t) → (one shadow : Bool) → list_all (is_of_trait c.item.container) cs ≡ one → q.settings.supertrait_item_shadowing ≡ shadow → Judged q p cs (judge_several c cs one shadow)
       several_judged c m u true shadow e s = judgement.one_trait c many (c.item.container, all_of_says _ (is_of_trait c.item.container) (of_trait_says c.item.container) cs e) m
-      several_judged c m u false true e s = subtrait_judged (λ h. never _ (all_of_from _ (is_of_trait c.item.container) (of_trait_from c.item.container) cs (subst (λ t. All (OfTrait t) cs) (sym (u h.0 h.1)) h.1)) e) s (first_over cs cs) refl
-      several_judged c m u false false e s = judgement.several many (λ h. never _ (all_of_from _ (is_of_trait c.item.container) (of_trait_from c.item.container) cs (subst (λ t. All (OfTrait t) cs) (sym (u h.0 h.1)) h.1)) e) (λ on h. never _ on s)
+      several_judged c m u false true e s = subtrait_judged (λ h. both_ways _ e (all_of_from _ (is_of_trait c.item.container) (of_trait_from c.item.container) cs (subst (λ t. All (OfTrait t) cs) (sym (u h.0 h.1)) h.1))) s (find (is_over cs) cs) refl
+      several_judged c m u false false e s = judgement.several many (λ h. both_ways _ e (all_of_from _ (is_of_trait c.item.container) (of_trait_from c.item.container) cs (subst (λ t. All (OfTrait t) cs) (sym (u h.0 h.1)) h.1))) (λ on h. both_ways _ s on)
 
     pub judge_judges : (cs : List Candidate) → Judged q p cs (judge cs)
     judge_judges [] = judgement.none refl
@@ -107,7 +94,7 @@ module _ (q : Question) where
 
 -- A pick excludes every other decision.
 no_pick_and_nothing : (q : Question) (p : Place) (cs : List Candidate) (k : Pick) (is : List ItemId) → cs ≡ [] → Judged q p cs (pick k is) → ⊥
-no_pick_and_nothing q p cs k is e (judgement.sole c f) = let z : ◌≡◌ {A = ℕ} 0 1 = cc in omega arith
+no_pick_and_nothing q p cs k is e (judgement.sole c f) = cc
 no_pick_and_nothing q p cs k is e (judgement.one_trait c many o m) = let h : length cs ≡ 0 = ap length e in omega arith
 no_pick_and_nothing q p cs k is e (judgement.subtrait c many o s m a) = let h : length cs ≡ 0 = ap length e in omega arith
 
@@ -131,12 +118,12 @@ nonempty [] = false
 nonempty (x ∷ xs) = true
 
 nonempty_says : {X : Type 0} (xs : List X) → nonempty xs ≡ true → xs ≡ [] → ⊥
-nonempty_says [] e f = never false e refl
-nonempty_says (x ∷ xs) e f = let z : ◌≡◌ {A = ℕ} 0 1 = cc in omega arith
+nonempty_says [] e f = cc
+nonempty_says (x ∷ xs) e f = cc
 
 empty_says : {X : Type 0} (xs : List X) → nonempty xs ≡ false → (xs ≡ [] → ⊥) → ⊥
 empty_says [] e f = f refl
-empty_says (x ∷ xs) e f = never true refl e
+empty_says (x ∷ xs) e f = cc
 
 -- the private pick of a place
 pub record PrivatePick : Type 0 where
@@ -145,25 +132,14 @@ pub record PrivatePick : Type 0 where
   pub shadowed : List ItemId
 
 module _ (q : Question) (ts : Scope) where
-  abbrev pub first_turn : List Turn → Option Turn
-  first_turn [] = None
-  first_turn (t ∷ us) = cond (nonempty (applying q ts t.list t.place)) (Some t) (first_turn us)
+  abbrev pub some_apply : Turn → Bool
+  some_apply t = nonempty (applying q ts t.list t.place)
 
-  first_turn_found : (us : List Turn) (t : Turn) → first_turn us ≡ Some t → First (SomeApply q ts) us t
-  first_turn_found [] t e = absurd (let z : ◌≡◌ {A = ℕ} 0 1 = cc in omega arith)
-  first_turn_found (u ∷ us) t e = step (λ k. first_turn_found us t k) (nonempty (applying q ts u.list u.place)) refl e
-    where
-      step : (first_turn us ≡ Some t → First (SomeApply q ts) us t) → (b : Bool) → nonempty (applying q ts u.list u.place) ≡ b → cond b (Some u) (first_turn us) ≡ Some t → First (SomeApply q ts) (u ∷ us) t
-      step rest true h k = inl (nonempty_says _ h, cc)
-      step rest false h k = inr (empty_says _ h, rest k)
+  some_says : (t : Turn) → some_apply t ≡ true → SomeApply q ts t
+  some_says t e = nonempty_says _ e
 
-  first_turn_none : (us : List Turn) → first_turn us ≡ None → NoneOf (SomeApply q ts) us
-  first_turn_none [] e = tt
-  first_turn_none (u ∷ us) e = step (λ k. first_turn_none us k) (nonempty (applying q ts u.list u.place)) refl e
-    where
-      step : (first_turn us ≡ None → NoneOf (SomeApply q ts) us) → (b : Bool) → nonempty (applying q ts u.list u.place) ≡ b → cond b (Some u) (first_turn us) ≡ None → NoneOf (SomeApply q ts) (u ∷ us)
-      step rest true h k = absurd (let z : ◌≡◌ {A = ℕ} 0 1 = cc in omega arith)
-      step rest false h k = (empty_says _ h, rest k)
+  some_denies : (t : Turn) → some_apply t ≡ false → SomeApply q ts t → ⊥
+  some_denies t e = empty_says _ e
 
   abbrev pub private_or : Place → Decision → Option PrivatePick → Option PrivatePick
   private_or p nothing rest = rest
@@ -174,20 +150,20 @@ module _ (q : Question) (ts : Scope) where
   first_private [] = None
   first_private (p ∷ ps) = private_or p (judge q p (applying q ts private p)) (first_private ps)
 
-  FoundPrivate : List Place → PrivatePick → Type 0
+  abbrev FoundPrivate : List Place → PrivatePick → Type 0
   FoundPrivate ps r = First (GivesPrivatePick q ts) ps r.place × JudgedPrivately q ts r.place r.chosen r.shadowed
 
-  private_found : (ps : List Place) (r : PrivatePick) → first_private ps ≡ Some r → First (GivesPrivatePick q ts) ps r.place × JudgedPrivately q ts r.place r.chosen r.shadowed
-  private_found [] r e = absurd (let z : ◌≡◌ {A = ℕ} 0 1 = cc in omega arith)
+  private_found : (ps : List Place) (r : PrivatePick) → first_private ps ≡ Some r → FoundPrivate ps r
+  private_found [] r e = cc
   private_found (p ∷ ps) r e = step (λ k. private_found ps r k) (judge q p (applying q ts private p)) (judge_judges q p (applying q ts private p)) e
     where
-      step : (first_private ps ≡ Some r → First (GivesPrivatePick q ts) ps r.place × JudgedPrivately q ts r.place r.chosen r.shadowed) → (d : Decision) → Judged q p (applying q ts private p) d → private_or p d (first_private ps) ≡ Some r
-          → First (GivesPrivatePick q ts) (p ∷ ps) r.place × JudgedPrivately q ts r.place r.chosen r.shadowed
+      step : (first_private ps ≡ Some r → FoundPrivate ps r) → (d : Decision) → Judged q p (applying q ts private p) d → private_or p d (first_private ps) ≡ Some r
+          → FoundPrivate (p ∷ ps) r
       step rest nothing j k = (inr (λ g. nothing_no_pick q p _ j g.0 g.1.0 g.1.1, (rest k).0), (rest k).1)
       step rest (ambiguity ss) j k = (inr (λ g. ambiguity_no_pick q p _ ss j g.0 g.1.0 g.1.1, (rest k).0), (rest k).1)
       step rest (pick c is) j k =
           let same : record { place = p; chosen = c; shadowed = is } ≡ r = cc in
-          subst (λ (x : PrivatePick). First (GivesPrivatePick q ts) (p ∷ ps) x.place × JudgedPrivately q ts x.place x.chosen x.shadowed) same (inl ((c, (is, j)), refl), j)
+          subst (FoundPrivate (p ∷ ps)) same (inl ((c, (is, j)), refl), j)
 
   private_none : (ps : List Place) → first_private ps ≡ None → NoneOf (GivesPrivatePick q ts) ps
   private_none [] e = tt
@@ -196,7 +172,7 @@ module _ (q : Question) (ts : Scope) where
       step : (first_private ps ≡ None → NoneOf (GivesPrivatePick q ts) ps) → (d : Decision) → Judged q p (applying q ts private p) d → private_or p d (first_private ps) ≡ None → NoneOf (GivesPrivatePick q ts) (p ∷ ps)
       step rest nothing j k = (λ g. nothing_no_pick q p _ j g.0 g.1.0 g.1.1, rest k)
       step rest (ambiguity ss) j k = (λ g. ambiguity_no_pick q p _ ss j g.0 g.1.0 g.1.1, rest k)
-      step rest (pick c is) j k = absurd (let z : ◌≡◌ {A = ℕ} 0 1 = cc in omega arith)
+      step rest (pick c is) j k = cc
 
   abbrev pub by_decision : Place → Decision → Finding
   by_decision p nothing = record { found = Err NoMatch; entries = [] }
@@ -213,7 +189,7 @@ module _ (q : Question) (ts : Scope) where
 
   -- the verdict, computed
   abbrev pub finding : Finding
-  finding = by_turn (first_turn (turns q))
+  finding = by_turn (find some_apply (turns q))
 
   decision_found : (t : Turn) → Decides q ts t → SomeApply q ts t → (d : Decision) → Judged q t.place (applying q ts t.list t.place) d → Finds q ts (by_decision t.place d)
   decision_found t h some nothing j = absurd (some (only_nothing q _ _ j))
@@ -224,17 +200,12 @@ module _ (q : Question) (ts : Scope) where
   by_private_found u None e = verdicts.unmatched u (private_none (places q) e)
   by_private_found u (Some r) e = let h = private_found (places q) r e in verdicts.hidden r.place r.chosen r.shadowed u h.0 h.1
 
-  pub first_holds : {X : Type 0} (P : X → Type 0) (xs : List X) (x : X) → First P xs x → P x
-  first_holds P [] x h = absurd h
-  first_holds P (y ∷ ys) x (inl h) = subst P h.1 h.0
-  first_holds P (y ∷ ys) x (inr h) = first_holds P ys x h.1
-
-  by_turn_found : (o : Option Turn) → first_turn (turns q) ≡ o → Finds q ts (by_turn o)
-  by_turn_found None e = by_private_found (first_turn_none (turns q) e) (first_private (places q)) refl
+  by_turn_found : (o : Option Turn) → find some_apply (turns q) ≡ o → Finds q ts (by_turn o)
+  by_turn_found None e = by_private_found (none_from_find (SomeApply q ts) some_apply some_says some_denies (turns q) e) (first_private (places q)) refl
   by_turn_found (Some t) e =
-      let h = first_turn_found (turns q) t e in
+      let h = first_from_find (SomeApply q ts) some_apply some_says some_denies (turns q) t e in
       decision_found t h (first_holds (SomeApply q ts) (turns q) t h) _ (judge_judges q t.place (applying q ts t.list t.place))
 
   -- there is a verdict to every question
   pub finding_found : Finds q ts finding
-  finding_found = by_turn_found (first_turn (turns q)) refl
+  finding_found = by_turn_found (find some_apply (turns q)) refl

@@ -1,7 +1,6 @@
 -- One question over one scope finds one verdict: how a verdict came about.
-use Rattle.std.proofs.Common.{◌≡◌, ◌⊎◌, List, [], ◌∷◌, map, filter, sym, refl, ◌∙◌, subst, inl, inr}
+use Rattle.std.proofs.Common.{◌≡◌, ◌⊎◌, List, [], map, filter, sym, refl, subst, inl, inr}
 use Rattle.std.specs.List.{AllByRecursion as All}
-use Rattle.host.specs.Meaning.{◌∈◌}
 use Rattle.host.specs.Law.{Lawful}
 use Rattle.method_resolution.specs.Types.{Candidate, Err, ItemId, NoMatch, Pick, Place, PrivateMatch, Shadowed}
 use Rattle.method_resolution.specs.Words.{First, NoneOf}
@@ -12,26 +11,10 @@ use Rattle.method_resolution.specs.Places.{places, applies, applying}
 use Rattle.method_resolution.specs.Judgement.{Decision, pick, ambiguity, Judged}
 use Rattle.method_resolution.specs.Verdicts as verdicts
 use Rattle.method_resolution.specs.Verdicts.{Turn, turns, SomeApply, Decides, Undecided, Finding, Finds}
-use Rattle.method_resolution.proofs.Deciding.{by_decision, first_holds}
+use Rattle.method_resolution.proofs.ListFacts.{first_once, first_not_none}
+use Rattle.method_resolution.proofs.Deciding.{by_decision}
 use Rattle.method_resolution.proofs.AssembledLists.{Offered}
 use Rattle.method_resolution.proofs.Judging.{judged_once}
-
-pub first_in : {X : Type 0} (P : X → Type 0) (xs : List X) (x : X) → First P xs x → x ∈ xs
-first_in P [] x h = absurd h
-first_in P (y ∷ ys) x (inl h) = inl (sym h.1)
-first_in P (y ∷ ys) x (inr h) = inr (first_in P ys x h.1)
-
-pub first_once : {X : Type 0} (P : X → Type 0) (xs : List X) (x y : X) → First P xs x → First P xs y → x ≡ y
-first_once P [] x y h k = absurd h
-first_once P (z ∷ zs) x y (inl h) (inl k) = sym h.1 ∙ k.1
-first_once P (z ∷ zs) x y (inl h) (inr k) = absurd (k.0 h.0)
-first_once P (z ∷ zs) x y (inr h) (inl k) = absurd (h.0 k.0)
-first_once P (z ∷ zs) x y (inr h) (inr k) = first_once P zs x y h.1 k.1
-
-pub first_not_none : {X : Type 0} (P : X → Type 0) (xs : List X) (x : X) → First P xs x → NoneOf P xs → ⊥
-first_not_none P [] x h n = h
-first_not_none P (z ∷ zs) x (inl h) n = n.0 h.0
-first_not_none P (z ∷ zs) x (inr h) n = first_not_none P zs x h.1 n.1
 
 module _ (q : Question) where
   -- A verdict that was made at a turn.
@@ -41,9 +24,6 @@ module _ (q : Question) where
     pub decides : Decides q ts turn
     pub judged : Judged q turn.place (applying q ts turn.list turn.place) decision
     pub is : f ≡ by_decision q ts turn.place decision
-
-  pub some_applies : (ts : Scope) (t : Turn) → Decides q ts t → SomeApply q ts t
-  some_applies ts t h = first_holds q ts (SomeApply q ts) (turns q) t h
 
   -- the private part of a verdict, over the private list
   abbrev pub GivesPick : List Candidate → Place → Type 0

@@ -26,27 +26,27 @@ module _ (q : Question) (law : Lawful q.meaning) (p : Place) (cs : List Candidat
 
   pub judged_once : (d e : Decision) → Judged q p cs d → Judged q p cs e → d ≡ e
   judged_once d e (judgement.none x) (judgement.none y) = refl
-  judged_once d e (judgement.none x) (judgement.sole c y) = let h : length cs ≡ 0 = ap length x in let k : length cs ≡ 1 = ap length y in absurd (omega arith)
-  judged_once d e (judgement.none x) (judgement.one_trait c m o i) = let h : length cs ≡ 0 = ap length x in absurd (omega arith)
-  judged_once d e (judgement.none x) (judgement.subtrait c m o s i a) = let h : length cs ≡ 0 = ap length x in absurd (omega arith)
-  judged_once d e (judgement.none x) (judgement.several m o s) = let h : length cs ≡ 0 = ap length x in absurd (omega arith)
-  judged_once d e (judgement.sole b x) (judgement.none y) = let h : length cs ≡ 1 = ap length x in let k : length cs ≡ 0 = ap length y in absurd (omega arith)
+  judged_once d e (judgement.none x) (judgement.sole c y) = cc
+  judged_once d e (judgement.none x) (judgement.one_trait c m o i) = absurd (omega (arith, ap length x))
+  judged_once d e (judgement.none x) (judgement.subtrait c m o s i a) = absurd (omega (arith, ap length x))
+  judged_once d e (judgement.none x) (judgement.several m o s) = absurd (omega (arith, ap length x))
+  judged_once d e (judgement.sole b x) (judgement.none y) = cc
   judged_once d e (judgement.sole b x) (judgement.sole c y) = let h : b ≡ c = cc in ap (λ z. pick (pick_of p z) []) h
-  judged_once d e (judgement.sole b x) (judgement.one_trait c m o i) = let h : length cs ≡ 1 = ap length x in absurd (omega arith)
-  judged_once d e (judgement.sole b x) (judgement.subtrait c m o s i a) = let h : length cs ≡ 1 = ap length x in absurd (omega arith)
-  judged_once d e (judgement.sole b x) (judgement.several m o s) = let h : length cs ≡ 1 = ap length x in absurd (omega arith)
-  judged_once d e (judgement.one_trait b n u j) (judgement.none y) = let k : length cs ≡ 0 = ap length y in absurd (omega arith)
-  judged_once d e (judgement.one_trait b n u j) (judgement.sole c y) = let k : length cs ≡ 1 = ap length y in absurd (omega arith)
+  judged_once d e (judgement.sole b x) (judgement.one_trait c m o i) = absurd (omega (arith, ap length x))
+  judged_once d e (judgement.sole b x) (judgement.subtrait c m o s i a) = absurd (omega (arith, ap length x))
+  judged_once d e (judgement.sole b x) (judgement.several m o s) = absurd (omega (arith, ap length x))
+  judged_once d e (judgement.one_trait b n u j) (judgement.none y) = absurd (omega (arith, ap length y))
+  judged_once d e (judgement.one_trait b n u j) (judgement.sole c y) = absurd (omega (arith, ap length y))
   judged_once d e (judgement.one_trait b n u j) (judgement.one_trait c m o i) = ap (λ z. pick (trait_pick_of p z) []) (of_one_trait_item b c j i o)
   judged_once d e (judgement.one_trait b n u j) (judgement.subtrait c m o s i a) = absurd (o u)
   judged_once d e (judgement.one_trait b n u j) (judgement.several m o s) = absurd (o u)
-  judged_once d e (judgement.subtrait b n u t j f) (judgement.none y) = let k : length cs ≡ 0 = ap length y in absurd (omega arith)
-  judged_once d e (judgement.subtrait b n u t j f) (judgement.sole c y) = let k : length cs ≡ 1 = ap length y in absurd (omega arith)
+  judged_once d e (judgement.subtrait b n u t j f) (judgement.none y) = absurd (omega (arith, ap length y))
+  judged_once d e (judgement.subtrait b n u t j f) (judgement.sole c y) = absurd (omega (arith, ap length y))
   judged_once d e (judgement.subtrait b n u t j f) (judgement.one_trait c m o i) = absurd (u o)
   judged_once d e (judgement.subtrait b n u t j f) (judgement.subtrait c m o s i a) = ap (λ z. pick (trait_pick_of p z) (shadowed_by z cs)) (subtrait_item b c j i f a)
   judged_once d e (judgement.subtrait b n u t j f) (judgement.several m o s) = absurd (s t (b, (j, f)))
-  judged_once d e (judgement.several n u t) (judgement.none y) = let k : length cs ≡ 0 = ap length y in absurd (omega arith)
-  judged_once d e (judgement.several n u t) (judgement.sole c y) = let k : length cs ≡ 1 = ap length y in absurd (omega arith)
+  judged_once d e (judgement.several n u t) (judgement.none y) = absurd (omega (arith, ap length y))
+  judged_once d e (judgement.several n u t) (judgement.sole c y) = absurd (omega (arith, ap length y))
   judged_once d e (judgement.several n u t) (judgement.one_trait c m o i) = absurd (u o)
   judged_once d e (judgement.several n u t) (judgement.subtrait c m o s i a) = absurd (t s (c, (i, a)))
   judged_once d e (judgement.several n u t) (judgement.several m o s) = refl

@@ -1,13 +1,14 @@
 -- What one more offer, and one more place, do to the definitions: the steps by which a program is proved.
-use Rattle.std.proofs.Common.{◌≡◌, ℕ, suc, ◌+◌, ◌-◌, ◌<◌, Bool, true, false, cond, not, ◌||◌, List, [], ◌∷◌, ◌++◌, map, filter, refl, ap, ◌∙◌, inl, inr, append_assoc, append-nil, arith}
+use Rattle.std.proofs.Common.{◌≡◌, ℕ, suc, ◌+◌, ◌-◌, ◌<◌, Bool, true, false, cond, not, ◌||◌, List, [], ◌∷◌, ◌++◌, filter, refl, ap, ◌∙◌, inl, inr, append_assoc, append-nil, arith}
 use Rattle.method_resolution.specs.Types.{Option, Refusal}
+use Rattle.std.specs.List.{flat_map}
 use Rattle.std.proofs.lemmas.List.Elements.{filter-append}
-use Rattle.std.proofs.ByRecursion.{All-append}
 use Rattle.host.specs.Meaning.{listed_from, joined}
-use Rattle.method_resolution.specs.Words.{gathered, First, NoneOf}
+use Rattle.method_resolution.specs.Words.{First, NoneOf}
 use Rattle.method_resolution.specs.Questions.{Question}
-use Rattle.method_resolution.specs.Offers.{Offer, once, same_impl, is_impl}
+use Rattle.method_resolution.specs.Offers.{Offer, once, same_impl}
 use Rattle.method_resolution.specs.Assembly.{ListName, candidate_of, goes_on, candidates_on, Fits, Overfull, Overfills}
+use Rattle.method_resolution.proofs.ListFacts.{all_append}
 use Rattle.method_resolution.proofs.AssembledLists.{candidates_on-append}
 
 -- an impl that was offered before
@@ -28,14 +29,10 @@ once_more (p ∷ ps) o =
     step false e true = refl
     step false e false = ap (λ b. cond (not b) (o ∷ []) []) e
 
--- whether an impl was met, by the numbers of the impls met
-abbrev pub impl_numbers : List Offer → List ℕ
-impl_numbers os = map (λ (o : Offer). o.container) (filter (λ (o : Offer). is_impl o.kind) os)
-
 -- The lists grow at their ends.
 pub candidates_more : (q : Question) (l : ListName) (os : List Offer) (o : Offer) → candidates_on q l (os ++ (o ∷ [])) ≡ candidates_on q l os ++ filter (goes_on q l) (candidate_of q o)
 unfolding candidates_on
-candidates_more q l os o = candidates_on-append q l os (o ∷ []) ∙ ap (λ r. filter (goes_on q l) (gathered (candidate_of q) os) ++ filter (goes_on q l) r) (append-nil (candidate_of q o))
+candidates_more q l os o = candidates_on-append q l os (o ∷ []) ∙ ap (λ r. filter (goes_on q l) (flat_map (candidate_of q) os) ++ filter (goes_on q l) r) (append-nil (candidate_of q o))
 
 -- A refusal stays, whatever would come behind.
 pub overfills_more : (q : Question) (os ps : List Offer) (e : Refusal) → Overfills q os e → Overfills q (os ++ ps) e
@@ -69,4 +66,4 @@ module _ {X : Type 0} (P : X → Type 0) where
   first_before (z ∷ zs) ys x (inr h) = inr (h.0, first_before zs ys x h.1)
 
   pub none_more : (xs : List X) (x : X) → NoneOf P xs → (P x → ⊥) → NoneOf P (xs ++ (x ∷ []))
-  none_more xs x n h = All-append (λ z. P z → ⊥) xs (x ∷ []) n (h, tt)
+  none_more xs x n h = all_append (λ z. P z → ⊥) xs (x ∷ []) n (h, tt)

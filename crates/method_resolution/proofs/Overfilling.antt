@@ -1,6 +1,7 @@
 -- Which refusal assembly gives, if any, is the same for all scopes.
-use Rattle.std.proofs.Common.{◌≡◌, suc, ◌+◌, ◌≤◌, ◌⊎◌, List, [], ◌∷◌, ◌++◌, length, sym, refl, ap, ◌∙◌, subst, inl, inr, append_assoc, arith, length-append}
+use Rattle.std.proofs.Common.{◌≡◌, ◌+◌, ◌≤◌, ◌⊎◌, List, [], ◌∷◌, ◌++◌, length, sym, refl, ap, ◌∙◌, subst, inl, inr, append_assoc, arith, length-append}
 use Rattle.std.specs.List.{AllByRecursion as All}
+use Rattle.std.proofs.lemmas.List.{length-map}
 use Rattle.method_resolution.specs.Types.{Refusal}
 use Rattle.method_resolution.specs.Questions.{Question, Scope}
 use Rattle.method_resolution.specs.Offers.{Offer, inherent_offers, trait_offers, offers}
@@ -98,8 +99,7 @@ module _ (q : Question) where
       by_list extension = let h = joined extension in let k : length (candidates_on q extension (inherent_offers q)) ≡ 0 = ap length (extension_from_steps q (inherent_offers q) (inherent_from_step q)) in let g = few_candidates q extension os in omega arith
 
   length-offers : (ts : Scope) → length (trait_offers ts) ≡ length ts
-  length-offers [] = refl
-  length-offers (t ∷ ts) = ap suc (length-offers ts)
+  length-offers ts = length-map ts _
 
   pub fits_any_scope : (ts : Scope) → length ts ≤ 64 → Fits q (inherent_offers q) → Fits q (offers q ts)
   fits_any_scope ts few f = let h = length-offers ts in fits_with_scope (trait_offers ts) f (trait_offers_from_scope ts) (omega arith)

@@ -1,9 +1,8 @@
 -- The candidates that the offers give, the lists that they go on, and when there are too many.
-use Rattle.std.specs.Prelude.{◌≡◌, ℕ, ◌+◌, ◌<◌, ◌≤◌, Bool, true, false, cond, not, ◌&&◌, List, [], ◌∷◌, ◌++◌, length, filter, ◌==◌}
+use Rattle.std.specs.Prelude.{◌≡◌, ℕ, ◌+◌, ◌<◌, ◌≤◌, Bool, true, false, cond, not, ◌&&◌, List, [], ◌∷◌, ◌++◌, length, filter, ◌==◌, flat_map}
 use Rattle.host.specs.Meaning.{listed}
 use Rattle.host.specs.declared.forms.ContainerKind.TheVariants.{Impl, Trait}
 use Rattle.method_resolution.specs.Types.{Alias, Candidate, CandidateKind, Const, ContainerKind, Function, InherentImplCandidate, Item, MethodCall, Mode, None, ObjectCandidate, Option, Path, Refusal, Some, Sort, TooManyCandidates, TooManyImpls, TraitCandidate, WhereClauseCandidate}
-use Rattle.method_resolution.specs.Words.{gathered}
 use Rattle.method_resolution.specs.Questions.{Question}
 use Rattle.method_resolution.specs.Offers.{Offer, is_impl}
 
@@ -72,7 +71,7 @@ goes_on q extension c = is_trait_candidate c.kind
 
 -- the candidates of some offers that go on a list, in the order of the offers
 unfoldable pub candidates_on : Question → ListName → List Offer → List Candidate
-candidates_on q list os = filter (goes_on q list) (gathered (candidate_of q) os)
+candidates_on q list os = filter (goes_on q list) (flat_map (candidate_of q) os)
 
 unfoldable pub impls_met : List Offer → ℕ
 impls_met os = length (filter (λ o. is_impl o.kind) os)

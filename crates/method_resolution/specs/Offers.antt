@@ -1,9 +1,8 @@
 -- What the steps and the traits in scope offer, in order.
-use Rattle.std.specs.Prelude.{ℕ, Bool, true, false, not, ◌&&◌, List, [], ◌∷◌, ◌++◌, map, filter, ◌==◌}
+use Rattle.std.specs.Prelude.{ℕ, Bool, true, false, not, ◌&&◌, List, [], ◌∷◌, ◌++◌, map, filter, ◌==◌, flat_map}
 use Rattle.host.specs.Meaning.{Meaning, listed, supers_of}
 use Rattle.host.specs.declared.forms.Form.TheVariants as form
 use Rattle.method_resolution.specs.Types.{CandidateKind, CandidateStep, Form, InherentImplCandidate, ObjectCandidate, TraitCandidate, WhereClauseCandidate}
-use Rattle.method_resolution.specs.Words.{gathered}
 use Rattle.method_resolution.specs.Questions.{Question, Scope}
 
 -- an impl or a trait that may have an item of the name, and how it is found
@@ -61,7 +60,7 @@ once (o ∷ os) = o ∷ filter (λ p. not (same_impl o p)) (once os)
 
 -- what all steps offer, admitted or not
 unfoldable pub inherent_offers : Question → List Offer
-inherent_offers q = once (gathered (step_offers q.meaning) q.steps)
+inherent_offers q = once (flat_map (step_offers q.meaning) q.steps)
 
 abbrev pub trait_offers : Scope → List Offer
 trait_offers traits = offers_as TraitCandidate traits

@@ -1,11 +1,10 @@
 -- Where candidates are tried, and which of them apply.
-use Rattle.std.specs.Prelude.{ℕ, Bool, true, false, not, ◌&&◌, ◌||◌, List, [], ◌∷◌, map, filter, ◌==◌}
+use Rattle.std.specs.Prelude.{ℕ, Bool, true, false, not, ◌&&◌, ◌||◌, List, [], ◌∷◌, map, filter, ◌==◌, flat_map}
 use Rattle.host.specs.Numbers.{form_number, wrap_number}
 use Rattle.host.specs.declared.forms.Form.TheVariants.{Array, RawPtrMut}
 use Rattle.host.specs.declared.forms.Wrap.TheVariants.{Bare, Ref, RefMut, ConstPtr}
 use Rattle.host.specs.declared.forms.CandidateClass.TheVariants as class
 use Rattle.method_resolution.specs.Types.{Candidate, CandidateClass, CandidateKind, CandidateStep, Edition, Edition2015, Edition2018, Edition2021, Edition2024, Form, InherentImplCandidate, ObjectCandidate, Place, TraitCandidate, WhereClauseCandidate, Wrap}
-use Rattle.method_resolution.specs.Words.{gathered}
 use Rattle.method_resolution.specs.Questions.{Question, Scope, form_of}
 use Rattle.method_resolution.specs.Offers.{offers}
 use Rattle.method_resolution.specs.Assembly.{ListName, candidates_on, is_trait_candidate}
@@ -35,7 +34,7 @@ places_of q step = map (λ w. record { step = step; wrap = w }) (filter (tried q
 
 -- the places of the admitted steps, in order
 unfoldable pub places : Question → List Place
-places q = gathered (places_of q) (filter admitted q.steps)
+places q = flat_map (places_of q) (filter admitted q.steps)
 
 abbrev pub before_2021 : Edition → Bool
 before_2021 Edition2015 = true

@@ -1,10 +1,10 @@
 -- The verdict, and the answer with all its refusals.
-use Rattle.std.specs.Prelude.{◌≡◌, ℕ, ◌+◌, ◌<◌, ◌≤◌, Bool, false, List, [], ◌∷◌, ◌++◌, map, length, drop}
+use Rattle.std.specs.Prelude.{◌≡◌, ℕ, ◌+◌, ◌<◌, ◌≤◌, Bool, false, List, [], ◌∷◌, ◌++◌, map, length, drop, flat_map}
 use Rattle.std.specs.List.{AllByRecursion}
 use Rattle.host.specs.declared.forms.Form.TheVariants as form
 use Rattle.host.specs.declared.forms.Wrap.TheVariants as wrap
 use Rattle.method_resolution.specs.Types.{Ambiguity, Autoref, AutorefOrPtrAdjustment, CandidateSource, CandidateStep, Err, Form, ItemId, ListEntry, ListTooShort, MethodError, Mut, NoMatch, None, Not, Ok, Option, Pick, Place, PrivateMatch, Refusal, Result, Shadowed, Some, Source, ToConstPtr, TooManyAutoderefs, TooManySteps, Verdict, Wrap}
-use Rattle.method_resolution.specs.Words.{gathered, First, NoneOf}
+use Rattle.method_resolution.specs.Words.{First, NoneOf}
 use Rattle.method_resolution.specs.Questions.{Question, Scope, form_of}
 use Rattle.method_resolution.specs.Offers.{offers}
 use Rattle.method_resolution.specs.Assembly.{ListName, inherent, extension, private, Fits, Overfills}
@@ -48,7 +48,7 @@ turns_at p = record { place = p; list = inherent } ∷ record { place = p; list 
 
 -- the order of the search: at each place the inherent list, then the extension list
 unfoldable pub turns : Question → List Turn
-turns q = gathered turns_at (places q)
+turns q = flat_map turns_at (places q)
 
 abbrev pub SomeApply : Question → Scope → Turn → Type 0
 SomeApply q traits t = applying q traits t.list t.place ≡ [] → ⊥

@@ -1,11 +1,6 @@
 -- Words on lists that the other files use.
-use Rattle.std.specs.Prelude.{◌≡◌, ◌⊎◌, List, [], ◌∷◌, ◌++◌}
+use Rattle.std.specs.Prelude.{◌≡◌, ◌⊎◌, List, [], ◌∷◌}
 use Rattle.std.specs.List.{AllByRecursion}
-
--- what each element gives, one behind another
-abbrev pub gathered : {X Y : Type 0} → (X → List Y) → List X → List Y
-gathered f [] = []
-gathered f (x ∷ xs) = f x ++ gathered f xs
 
 -- y is the first element of which P holds
 abbrev pub First : {X : Type 0} → (X → Type 0) → List X → X → Type 0

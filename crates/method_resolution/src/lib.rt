@@ -2,6 +2,7 @@
 // way, and what is answered. The definitions of the answer stand in specs/, the search itself in the crates above.
 #![tactic(auto)]
 
+mod kinds;
 mod same;
 mod theorems;
 
@@ -10,7 +11,7 @@ use host::Wrap;
 pub use theorems::every_question_has_one_answer;
 
 // One autoderef step of a receiver: a type that the receiver can be turned into.
-#[derive(Clone, Copy)]
+#[derive(Clone, Copy, PartialEq, Eq)]
 pub struct CandidateStep {
     pub self_ty: u32,
     pub autoderefs: u32,
@@ -24,13 +25,14 @@ pub struct CandidateStep {
 }
 
 // A place, where candidates are tried: a step under a wrap.
-#[derive(Clone, Copy)]
+#[derive(Clone, Copy, PartialEq, Eq)]
 pub struct Place {
     pub step: CandidateStep,
     pub wrap: Wrap,
 }
 
-#[derive(Clone, Copy)]
+// The editions, oldest first.
+#[derive(Clone, Copy, PartialEq, Eq, PartialOrd, Ord)]
 pub enum Edition {
     Edition2015,
     Edition2018,
@@ -39,7 +41,7 @@ pub enum Edition {
 }
 
 // What is settled for all searches of a resolver.
-#[derive(Clone, Copy)]
+#[derive(Clone, Copy, PartialEq, Eq)]
 pub struct Settings {
     pub edition: Edition,
     // Whether a subtrait's item hides its supertraits' items of the same name.
@@ -47,15 +49,15 @@ pub struct Settings {
 }
 
 // An item that may be meant, and how it was found.
-#[derive(Clone, Copy)]
+#[derive(Clone, Copy, PartialEq, Eq)]
 pub struct Candidate {
     pub item: CandidateId,
     pub kind: CandidateKind,
 }
 
-// Receiver steps are the autoderefs of the first step that offers the impl. The origin is the type of the step that
-// offers an object's or a bound's trait.
-#[derive(Clone, Copy)]
+// How a candidate was found. Receiver steps are the autoderefs of the first step that offers the impl. The origin is the
+// type of the step that offers an object's or a bound's trait.
+#[derive(Clone, Copy, PartialEq, Eq)]
 pub enum CandidateKind {
     InherentImplCandidate { receiver_steps: u32 },
     ObjectCandidate { origin: u32 },
@@ -64,20 +66,21 @@ pub enum CandidateKind {
 }
 
 // Where an ambiguous candidate comes from.
-#[derive(Clone, Copy)]
+#[derive(Clone, Copy, PartialEq, Eq)]
 pub enum CandidateSource {
     Impl(u32),
     Trait(u32),
 }
 
-#[derive(Clone, Copy)]
+// Whether a reference is mutable.
+#[derive(Clone, Copy, PartialEq, Eq)]
 pub enum Mutability {
     Not,
     Mut,
 }
 
 // What is done to the receiver after its dereferences.
-#[derive(Clone, Copy)]
+#[derive(Clone, Copy, PartialEq, Eq)]
 pub enum AutorefOrPtrAdjustment {
     // A new reference, and whether an array behind it becomes a slice.
     Autoref { mutbl: Mutability, unsize: bool },
@@ -85,7 +88,8 @@ pub enum AutorefOrPtrAdjustment {
     ToConstPtr,
 }
 
-#[derive(Clone, Copy)]
+// How the item was found, with the number of its impl or trait.
+#[derive(Clone, Copy, PartialEq, Eq)]
 pub enum PickKind {
     InherentImplPick(u32),
     ObjectPick(u32),
@@ -95,14 +99,14 @@ pub enum PickKind {
 }
 
 // A place's type: a step's type under a wrap.
-#[derive(Clone, Copy)]
+#[derive(Clone, Copy, PartialEq, Eq)]
 pub struct SelfTy {
     pub ty: u32,
     pub wrap: Wrap,
 }
 
 // The item that a name is bound to.
-#[derive(Clone, Copy)]
+#[derive(Clone, Copy, PartialEq, Eq)]
 pub struct Pick {
     pub item: CandidateId,
     pub kind: PickKind,
@@ -113,7 +117,8 @@ pub struct Pick {
     pub receiver_steps: Option<u32>,
 }
 
-#[derive(Clone, Copy)]
+// Why no item is picked.
+#[derive(Clone, Copy, PartialEq, Eq)]
 pub enum MethodError {
     NoMatch,
     // The sources are in the caller's list.
@@ -123,7 +128,7 @@ pub enum MethodError {
 }
 
 // What the caller's list receives: the sources of an ambiguity, or the items that a pick shadows.
-#[derive(Clone, Copy)]
+#[derive(Clone, Copy, PartialEq, Eq)]
 pub enum ListEntry {
     Source(CandidateSource),
     Shadowed(CandidateId),
@@ -133,7 +138,7 @@ pub enum ListEntry {
 pub type PickResult = Result<Pick, MethodError>;
 
 // The answer, and how many entries the list received from its front.
-#[derive(Clone, Copy)]
+#[derive(Clone, Copy, PartialEq, Eq)]
 pub struct Verdict {
     pub found: PickResult,
     pub count: usize,

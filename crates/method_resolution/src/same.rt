@@ -3,10 +3,10 @@ ghost use Rattle.std.specs.Prelude.{◌≡◌};
 ghost use Rattle.method_resolution.specs.Sameness.{same_candidate, same_entry};
 ghost use Rattle.std.proofs.Common.{rules};
 
-use super::{Candidate, CandidateSource, ListEntry};
+use super::{Candidate, ListEntry};
 use roll::Same;
 
-// Candidates are the same if their items are, however they were found.
+// By rule candidates are the same if their items are, however they were found: this is coarser than `==`.
 impl Same for Candidate {
     ghost same = { same_candidate };
 
@@ -31,17 +31,6 @@ impl Same for ListEntry {
     ghost transitive = { Prim.search rules };
 
     fn is_same(&self, other: &ListEntry) -> bool {
-        match (*self, *other) {
-            (
-                ListEntry::Source(CandidateSource::Impl(a)),
-                ListEntry::Source(CandidateSource::Impl(b)),
-            ) => a == b,
-            (
-                ListEntry::Source(CandidateSource::Trait(a)),
-                ListEntry::Source(CandidateSource::Trait(b)),
-            ) => a == b,
-            (ListEntry::Shadowed(a), ListEntry::Shadowed(b)) => a.is_same(&b),
-            _ => false,
-        }
+        *self == *other
     }
 }

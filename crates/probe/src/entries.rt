@@ -5,55 +5,51 @@ ghost use Rattle.method_resolution.specs.Judgement.{source_of, shadowed_by};
 ghost use Rattle.assembly.specs.Contexts.{question};
 ghost use Rattle.probe.specs.Writing.{Writes};
 
-use assembly::ProbeContext;
-use host::Host;
-use method_resolution::{Candidate, CandidateId, CandidateKind, CandidateSource, ListEntry, Place};
+use super::context::ProbeAt;
+use super::writing::push_all;
+use host::{Host, TraitItem};
+use method_resolution::{Candidate, CandidateId, CandidateKind, CandidateSource, ListEntry};
 use roll::{Roll, Same};
 
-// Where a candidate comes from: a trait candidate from the impl that the host names, if it names one.
-fn candidate_source<H: Host>(
-    ctx: &ProbeContext<'_, H>,
-    candidate: Candidate,
-    place: Place,
-) -> CandidateSource
-    ensures { result ≡ source_of (question H.Host.meaning ctx.now) place candidate }
-{
-    let item = candidate.item;
-    match candidate.kind {
-        CandidateKind::InherentImplCandidate { receiver_steps: _ } => CandidateSource::Impl(
-            item.container,
-        ),
-        CandidateKind::ObjectCandidate { origin: _ }
-        | CandidateKind::WhereClauseCandidate { origin: _ } => {
-            CandidateSource::Trait(item.container)
-        }
-        CandidateKind::TraitCandidate => {
-            match ctx.host.source(
-                item.container,
-                item.place,
-                place.step.self_ty,
-                place.wrap,
-                ctx.mode,
-            ) {
-                Some(impl_def_id) => CandidateSource::Impl(impl_def_id),
-                None => CandidateSource::Trait(item.container),
+impl<H: Host> ProbeAt<'_, H> {
+    // Where a candidate comes from: a trait candidate from the impl that the host names, if it names one.
+    fn candidate_source(&self, candidate: Candidate) -> CandidateSource
+        ensures { result ≡ source_of (question H.meaning self.now.ctx.now) self.now.place candidate }
+    {
+        let item = candidate.item;
+        match candidate.kind {
+            CandidateKind::InherentImplCandidate { receiver_steps: _ } => {
+                CandidateSource::Impl(item.container)
+            }
+            CandidateKind::ObjectCandidate { origin: _ }
+            | CandidateKind::WhereClauseCandidate { origin: _ } => {
+                CandidateSource::Trait(item.container)
+            }
+            CandidateKind::TraitCandidate => {
+                let asked = TraitItem {
+                    tr: item.container,
+                    place: item.place,
+                    ty: self.place.step.self_ty,
+                    wrap: self.place.wrap,
+                    mode: self.ctx.mode,
+                };
+                self.ctx.host.source(asked).map_or(
+                    CandidateSource::Trait(item.container),
+                    CandidateSource::Impl,
+                )
             }
         }
     }
-}
 
-// The source of each candidate, repeats kept.
-pub(crate) fn push_sources<H: Host>(
-    ctx: &ProbeContext<'_, H>,
-    place: Place,
-    candidates: &[Candidate],
-    entries: &mut Roll<'_, ListEntry>,
-)
-    ensures lent { entries.new.items.ghost_name ≡ entries.old.items.ghost_name }
-    ensures writes { Writes entries.old (map (λ c. Source (source_of (question H.Host.meaning ctx.now) place c)) candidates.now) entries.new }
-{
-    for candidate in candidates {
-        entries.push(ListEntry::Source(candidate_source(ctx, *candidate, place)));
+    // The source of each candidate, repeats kept.
+    pub(crate) fn push_sources(&self, candidates: &[Candidate], entries: &mut Roll<'_, ListEntry>)
+        ensures lent { entries.new.items.ghost_name ≡ entries.old.items.ghost_name }
+        ensures writes { Writes entries.old (map (λ c. Source (source_of (question H.meaning self.now.ctx.now) self.now.place c)) candidates.now) entries.new }
+    {
+        let sources = candidates.iter().copied().map(|candidate| ListEntry::Source(
+            self.candidate_source(candidate),
+        ));
+        push_all(entries, sources);
     }
 }
 
@@ -66,18 +62,18 @@ pub(crate) fn push_shadowed(
     ensures lent { entries.new.items.ghost_name ≡ entries.old.items.ghost_name }
     ensures writes { Writes entries.old (map Shadowed (shadowed_by picked candidates.now)) entries.new }
 {
-    for candidate in candidates {
-        if !picked.is_same(&candidate.item) {
-            entries.push(ListEntry::Shadowed(candidate.item));
-        }
-    }
+    let shadowed = candidates
+        .iter()
+        .copied()
+        .filter(|candidate| !picked.is_same(&candidate.item))
+        .map(|candidate| candidate.item)
+        .map(ListEntry::Shadowed);
+    push_all(entries, shadowed);
 }
 
 pub(crate) fn push_entries(from: &[ListEntry], entries: &mut Roll<'_, ListEntry>)
     ensures lent { entries.new.items.ghost_name ≡ entries.old.items.ghost_name }
     ensures writes { Writes entries.old from.now entries.new }
 {
-    for entry in from {
-        entries.push(*entry);
-    }
+    push_all(entries, from.iter().copied());
 }

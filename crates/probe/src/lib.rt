@@ -4,4 +4,6 @@
 
 mod applying;
 mod considering;
+mod context;
 mod entries;
+mod writing;

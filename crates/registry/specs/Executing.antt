@@ -1,5 +1,5 @@
 -- What a command of a script does.
-use Rattle.std.specs.Prelude.{◌≡◌, ℕ, cond, is_ok, Ok, Err, Option, Result}
+use Rattle.std.specs.Prelude.{◌≡◌, ℕ, if◌then◌else◌, is_ok, Ok, Err, Option, Result}
 use Rattle.script.specs.declared.commands.Command.{Command}
 use Rattle.script.specs.declared.commands.Command.TheVariants as command
 use Rattle.registry.specs.declared.executing.Reply.{Reply}
@@ -9,7 +9,7 @@ use Rattle.registry.specs.Registries.{State, Told, declare_wrong, with_host, tab
 
 -- A command that answers nothing: it is told by what is wrong, and `done` is the state where nothing is.
 abbrev pub Quietly : Option Trouble → State → State → Result Reply Trouble → State → Type 0
-Quietly wrong done s r s' = Told wrong r × (s' ≡ cond (is_ok r) done s) × ((a : Reply) → r ≡ Ok a → a ≡ Silent)
+Quietly wrong done s r s' = Told wrong r × (s' ≡ (if is_ok r then done else s)) × ((a : Reply) → r ≡ Ok a → a ≡ Silent)
 
 -- An opening, whose answer is passed on.
 abbrev pub OpensWith : State → ℕ → Result Reply Trouble → State → Type 0
@@ -27,6 +27,6 @@ answered (Err t) f = Err t
 abbrev pub Executes : State → Command → Result Reply Trouble → State → Type 0
 Executes s command.Nothing r s' = (r ≡ Ok Silent) × (s' ≡ s)
 Executes s (command.Host id k) r s' = Quietly (declare_wrong s id) (with_host s id k) s r s'
-Executes s (command.Row row) r s' = Quietly (table_wrong (begun_last s.declared)) (with_row s (begun_last s.declared) row) s r s'
+Executes s (command.Row row) r s' = Quietly (table_wrong (begun_last s)) (with_row s row) s r s'
 Executes s (command.Open id) r s' = OpensWith s id r s'
-Executes s (command.Ask id q) r s' = (r ≡ answered (asked_of (kind_of s.declared id) (opened_last s.opened id) q) Answered) × (s' ≡ s)
+Executes s (command.Ask id q) r s' = (r ≡ answered (asked_of (kind_of s id) (opened_last s id) q) Answered) × (s' ≡ s)

@@ -1,6 +1,9 @@
 -- The state of a registry, and what each call does to it.
-use Rattle.std.specs.Prelude.{◌≡◌, ℕ, ◌-◌, ◌^◌, ◌<◌, cond, ◌⊎◌, List, [], ◌∷◌, ◌++◌, length, is_some, Some, None, Ok, Err, vec_items, Option, Result, ◌==◌, slice_index_or}
-use Rattle.std.specs.List.{slice_get}
+use Rattle.std.specs.Prelude.{◌≡◌, ℕ, ◌^◌, ◌<◌, if◌then◌else◌, ◌⊎◌, List, [], ◌∷◌, ◌++◌, is_some, Some, None, Ok, Err, vec_items, Option, Result, nat_eq, unwrap_or}
+use Rattle.std.specs.BTreeMap.{get}
+use Rattle.std.specs.Map.{update}
+use Rattle.std.specs.Option.{option_map, option_and_then}
+use Rattle.std.specs.Ordering.{nat_cmp}
 use Rattle.host.specs.Law.{SupersLawful, empty_host}
 use Rattle.host.specs.Meaning.{Meaning}
 use Rattle.host.specs.Questions.{answer}
@@ -8,7 +11,6 @@ use Rattle.host.specs.declared.questions.Answer.{Answer}
 use Rattle.host.specs.declared.questions.Question.{Question}
 use Rattle.host.specs.declared.refusals.Refusal.{Refusal}
 use Rattle.host.specs.declared.refusals.Refusal.TheVariants.{UnlawfulSupertraits}
-use Rattle.rows.specs.Lists.{either}
 use Rattle.rows.specs.Tables.{tabled}
 use Rattle.rows.specs.declared.rows.Row.{Row}
 use Rattle.script.specs.declared.commands.HostKind.{HostKind}
@@ -16,39 +18,45 @@ use Rattle.script.specs.declared.commands.HostKind.TheVariants as kind
 use Rattle.registry.specs.AnyHosts.{any_meaning}
 use Rattle.registry.specs.declared.any.AnyHost.{AnyHost}
 use Rattle.registry.specs.declared.entries.Declared.{Declared}
-use Rattle.registry.specs.declared.entries.TableRow.{TableRow}
-use Rattle.registry.specs.declared.entries.Opened.{Opened}
 use Rattle.registry.specs.declared.entries.Registry.{Registry}
 use Rattle.registry.specs.declared.troubles.Trouble.{Trouble}
 use Rattle.registry.specs.declared.troubles.Trouble.TheVariants.{DeclaredTwice, NotDeclared, NoHostBegun, NoSuchTable, NotOpen, Memory}
 
--- the hosts begun, their rows and the hosts opened, each in the order in which they came
+-- what is known of a host that was begun: its kind, the rows given for it in their order, and the host opened for it last
+pub record Known : Type 0 where
+  pub kind : HostKind
+  pub rows : List Row
+  pub opened : Option AnyHost
+
+-- what is known of each identifier, and the one that was begun last
 pub record State : Type 0 where
-  pub declared : List Declared
-  pub table : List TableRow
-  pub opened : List Opened
+  pub hosts : ℕ → Option Known
+  pub begun : Option ℕ
+
+abbrev pub known : Declared → Known
+known d = record { kind = d.kind; rows = vec_items d.rows; opened = d.opened }
 
 abbrev pub state : Registry → State
-state r = record { declared = vec_items r.declared; table = vec_items r.table; opened = vec_items r.opened }
+state r = record { hosts = λ id. option_map known (get nat_cmp r.hosts id); begun = r.begun }
+
+abbrev pub no_hosts : State
+no_hosts = record { hosts = λ _. None; begun = None }
 
 -- of which kind the host with that identifier is
-abbrev pub kind_of : List Declared → ℕ → Option HostKind
-kind_of [] id = None
-kind_of (d ∷ ds) id = cond (d.id == id) (Some d.kind) (kind_of ds id)
+abbrev pub kind_of : State → ℕ → Option HostKind
+kind_of s id = option_map (λ k. k.kind) (s.hosts id)
 
 -- the rows given for it, in their order
-abbrev pub rows_of : List TableRow → ℕ → List Row
-rows_of [] id = []
-rows_of (l ∷ ls) id = cond (l.id == id) (l.row ∷ rows_of ls id) (rows_of ls id)
+abbrev pub rows_of : State → ℕ → List Row
+rows_of s id = unwrap_or (option_map (λ k. k.rows) (s.hosts id)) []
 
 -- the host that was opened for it last
-abbrev pub opened_last : List Opened → ℕ → Option AnyHost
-opened_last [] id = None
-opened_last (o ∷ os) id = either (opened_last os id) (cond (o.id == id) (Some o.host) None)
+abbrev pub opened_last : State → ℕ → Option AnyHost
+opened_last s id = option_and_then (λ k. k.opened) (s.hosts id)
 
 -- the host begun last
-abbrev pub begun_last : List Declared → Option Declared
-begun_last ds = slice_get ds (length ds - 1)
+abbrev pub begun_last : State → Option Known
+begun_last s = option_and_then s.hosts s.begun
 
 -- An answer told by what is wrong, if anything is; only where nothing is, memory may be wanting.
 abbrev pub Told : {X : Type 0} → Option Trouble → Result X Trouble → Type 0
@@ -57,23 +65,30 @@ Told wrong (Err t) = (wrong ≡ Some t) ⊎ ((wrong ≡ None) × (t ≡ Memory))
 
 -- A host is begun where its identifier is new.
 abbrev pub declare_wrong : State → ℕ → Option Trouble
-declare_wrong s id = cond (is_some (kind_of s.declared id)) (Some DeclaredTwice) None
+declare_wrong s id = if is_some (kind_of s id) then Some DeclaredTwice else None
 
 abbrev pub with_host : State → ℕ → HostKind → State
-with_host s id k = record { declared = s.declared ++ record { id = id; kind = k } ∷ []; table = s.table; opened = s.opened }
+with_host s id k = record { hosts = update nat_eq s.hosts id (Some (record { kind = k; rows = []; opened = None })); begun = Some id }
 
 -- A row goes to the host begun last, if that is a tabled one.
 abbrev pub kind_wrong : HostKind → Option Trouble
 kind_wrong kind.Tabled = None
 kind_wrong kind.Empty = Some NoSuchTable
 
-abbrev pub table_wrong : Option Declared → Option Trouble
+abbrev pub table_wrong : Option Known → Option Trouble
 table_wrong None = Some NoHostBegun
-table_wrong (Some d) = kind_wrong d.kind
+table_wrong (Some k) = kind_wrong k.kind
 
-abbrev pub with_row : State → Option Declared → Row → State
-with_row s None row = s
-with_row s (Some d) row = record { declared = s.declared; table = s.table ++ record { id = d.id; row = row } ∷ []; opened = s.opened }
+-- the state where what is known of one host is changed
+abbrev pub with_change : State → ℕ → (Known → Known) → State
+with_change s id f = record s { hosts = update nat_eq s.hosts id (option_map f (s.hosts id)) }
+
+abbrev pub with_row_of : State → Option ℕ → Row → State
+with_row_of s None row = s
+with_row_of s (Some id) row = with_change s id (λ k. record k { rows = k.rows ++ row ∷ [] })
+
+abbrev pub with_row : State → Row → State
+with_row s row = with_row_of s s.begun row
 
 -- what a host of that kind over these rows means
 abbrev pub meaning_of : HostKind → List Row → Meaning
@@ -87,12 +102,15 @@ Fresh k rs (Err e) = (k ≡ kind.Tabled) × (e ≡ UnlawfulSupertraits) × ((t :
 
 -- only a host that was declared can be opened
 abbrev pub open_wrong : State → ℕ → Option Trouble
-open_wrong s id = cond (is_some (kind_of s.declared id)) None (Some NotDeclared)
+open_wrong s id = if is_some (kind_of s id) then None else Some NotDeclared
 
--- Opening makes a host anew from the tables as they stand; refused, it leaves all as it was.
+abbrev pub with_open : State → ℕ → AnyHost → State
+with_open s id h = with_change s id (λ k. record k { opened = Some h })
+
+-- Opening makes a host anew from the tables as they stand, in place of the one before; refused, it leaves all as it was.
 abbrev pub Opens : State → ℕ → Result (Result (Unit {0}) Refusal) Trouble → State → Type 0
-Opens s id (Ok (Ok u)) s' = (k : HostKind) × (h : AnyHost) × (kind_of s.declared id ≡ Some k) × Fresh k (rows_of s.table id) (Ok h) × (s' ≡ record { declared = s.declared; table = s.table; opened = s.opened ++ record { id = id; host = h } ∷ [] })
-Opens s id (Ok (Err e)) s' = (k : HostKind) × (kind_of s.declared id ≡ Some k) × Fresh k (rows_of s.table id) (Err e) × (s' ≡ s)
+Opens s id (Ok (Ok u)) s' = (k : HostKind) × (h : AnyHost) × (kind_of s id ≡ Some k) × Fresh k (rows_of s id) (Ok h) × (s' ≡ with_open s id h)
+Opens s id (Ok (Err e)) s' = (k : HostKind) × (kind_of s id ≡ Some k) × Fresh k (rows_of s id) (Err e) × (s' ≡ s)
 Opens s id (Err t) s' = Told {X = Unit {0}} (open_wrong s id) (Err t) × (s' ≡ s)
 
 -- A question is answered by the host that was opened last.
@@ -100,8 +118,3 @@ abbrev pub asked_of : Option HostKind → Option AnyHost → Question → Result
 asked_of None o q = Err NotDeclared
 asked_of (Some k) None q = Err NotOpen
 asked_of (Some k) (Some h) q = Ok (answer (any_meaning h) q)
-
--- where the host that was opened last stands, if there is one
-abbrev pub Latest : List Opened → ℕ → Option ℕ → Type 0
-Latest os id None = opened_last os id ≡ None
-Latest os id (Some k) = (k < length os) × ((d : Opened) → opened_last os id ≡ Some (slice_index_or os k d).host)

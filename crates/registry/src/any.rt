@@ -2,13 +2,24 @@
 ghost use Rattle.std.specs.Prelude.{◌≡◌};
 ghost use Rattle.registry.specs.AnyHosts.{any_meaning, any_lawful};
 
-use host::{CandidateClass, ContainerKind, EmptyHost, Host, Item, Mode, TypeForm, Wrap};
+use host::{EmptyHost, Host, Item, ItemId, TraitItem, Trial, TypeForm};
 use tabled::TabledHost;
 
+// An enum of the kinds, since a `dyn Host` may not be handed out.
 #[derive(Drop)]
 pub enum AnyHost {
     Tabled(TabledHost),
     Empty(EmptyHost),
+}
+
+// What the host of whatever kind gives.
+macro_rules! of_any {
+    ($any:expr, $host:ident => $given:expr) => {
+        match $any {
+            AnyHost::Tabled($host) => $given,
+            AnyHost::Empty($host) => $given,
+        }
+    };
 }
 
 impl Host for AnyHost {
@@ -17,81 +28,42 @@ impl Host for AnyHost {
     ghost lawful = { any_lawful };
 
     fn form(&self, ty: u32) -> TypeForm {
-        match self {
-            AnyHost::Tabled(h) => h.form(ty),
-            AnyHost::Empty(h) => h.form(ty),
-        }
+        of_any!(self, h => h.form(ty))
     }
 
     fn own(&self, ty: u32, place: u32) -> Option<u32> {
-        match self {
-            AnyHost::Tabled(h) => h.own(ty, place),
-            AnyHost::Empty(h) => h.own(ty, place),
-        }
+        of_any!(self, h => h.own(ty, place))
     }
 
     fn stray(&self, ty: u32, place: u32) -> Option<u32> {
-        match self {
-            AnyHost::Tabled(h) => h.stray(ty, place),
-            AnyHost::Empty(h) => h.stray(ty, place),
-        }
+        of_any!(self, h => h.stray(ty, place))
     }
 
-    fn item(&self, kind: ContainerKind, container: u32, place: u32) -> Option<Item> {
-        match self {
-            AnyHost::Tabled(h) => h.item(kind, container, place),
-            AnyHost::Empty(h) => h.item(kind, container, place),
-        }
+    fn item(&self, at: ItemId) -> Option<Item> {
+        of_any!(self, h => h.item(at))
     }
 
     fn bound(&self, ty: u32, place: u32) -> Option<u32> {
-        match self {
-            AnyHost::Tabled(h) => h.bound(ty, place),
-            AnyHost::Empty(h) => h.bound(ty, place),
-        }
+        of_any!(self, h => h.bound(ty, place))
     }
 
     fn supers(&self, tr: u32, place: u32) -> Option<u32> {
-        match self {
-            AnyHost::Tabled(h) => h.supers(tr, place),
-            AnyHost::Empty(h) => h.supers(tr, place),
-        }
+        of_any!(self, h => h.supers(tr, place))
     }
 
-    fn visible(&self, kind: ContainerKind, container: u32, place: u32) -> bool {
-        match self {
-            AnyHost::Tabled(h) => h.visible(kind, container, place),
-            AnyHost::Empty(h) => h.visible(kind, container, place),
-        }
+    fn visible(&self, item: ItemId) -> bool {
+        of_any!(self, h => h.visible(item))
     }
 
     fn skips(&self, tr: u32) -> (bool, bool) {
-        match self {
-            AnyHost::Tabled(h) => h.skips(tr),
-            AnyHost::Empty(h) => h.skips(tr),
-        }
+        of_any!(self, h => h.skips(tr))
     }
 
-    fn applies(
-        &self,
-        class: CandidateClass,
-        container: u32,
-        place: u32,
-        origin: u32,
-        ty: u32,
-        wrap: Wrap,
-        mode: Mode,
-    ) -> bool {
-        match self {
-            AnyHost::Tabled(h) => h.applies(class, container, place, origin, ty, wrap, mode),
-            AnyHost::Empty(h) => h.applies(class, container, place, origin, ty, wrap, mode),
-        }
+    fn applies(&self, trial: Trial) -> bool {
+        of_any!(self, h => h.applies(trial))
     }
 
-    fn source(&self, tr: u32, place: u32, ty: u32, wrap: Wrap, mode: Mode) -> Option<u32> {
-        match self {
-            AnyHost::Tabled(h) => h.source(tr, place, ty, wrap, mode),
-            AnyHost::Empty(h) => h.source(tr, place, ty, wrap, mode),
-        }
+    fn source(&self, item: TraitItem) -> Option<u32> {
+        of_any!(self, h => h.source(item))
     }
 }

@@ -1,33 +1,24 @@
-// What a script has declared so far. Each list only grows.
+// What a script has declared so far.
 use super::any::AnyHost;
 use rows::Row;
 use script::HostKind;
+use std::alloc::Global;
+use std::collections::BTreeMap;
 
-// A host that was begun.
-#[derive(Clone, Copy)]
-pub(crate) struct Declared {
-    pub(crate) id: u32,
-    pub(crate) kind: HostKind,
-}
-
-// A row of the host with that identifier.
-#[derive(Clone, Copy)]
-pub(crate) struct TableRow {
-    pub(crate) id: u32,
-    pub(crate) row: Row,
-}
-
-// A host that was opened.
+// A host that was begun: the rows given for it, in their order, and the host opened last from them.
 #[derive(Drop)]
-pub(crate) struct Opened {
-    pub(crate) id: u32,
-    pub(crate) host: AnyHost,
+pub(crate) struct Declared {
+    pub(crate) kind: HostKind,
+    pub(crate) rows: Vec<Row>,
+    pub(crate) opened: Option<AnyHost>,
 }
 
-// The hosts of a script: those begun, their tables, and those opened, each in the order in which they came.
+// The hosts of a script by their identifiers, and which was begun last. Contracts read it through `state`, and not through a
+// model: the state holds a function, and a model's value can hold none.
 #[derive(Drop)]
 pub struct Registry {
-    pub(crate) declared: Vec<Declared>,
-    pub(crate) table: Vec<TableRow>,
-    pub(crate) opened: Vec<Opened>,
+    // Where the rows of hosts to come are kept.
+    pub(crate) heap: Global,
+    pub(crate) hosts: BTreeMap<u32, Declared>,
+    pub(crate) begun: Option<u32>,
 }

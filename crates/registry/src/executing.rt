@@ -7,7 +7,6 @@ use super::entries::Registry;
 use super::troubles::Trouble;
 use host::{Answer, Refusal};
 use script::Command;
-use std::alloc::Global;
 
 // What a command answers.
 #[derive(Clone, Copy)]
@@ -18,14 +17,14 @@ pub enum Reply {
 }
 
 impl Registry {
-    pub fn execute(&mut self, heap: Global, command: Command) -> Result<Reply, Trouble>
+    pub fn execute(&mut self, command: Command) -> Result<Reply, Trouble>
         ensures { Executes (state self.old) command result (state self.new) }
     {
         match command {
             Command::Nothing => {}
             Command::Host { id, kind } => self.declare(id, kind)?,
             Command::Row(row) => self.add_row(row)?,
-            Command::Open { id } => return Ok(Reply::Opened(self.open(heap, id)?)),
+            Command::Open { id } => return Ok(Reply::Opened(self.open(id)?)),
             Command::Ask { id, question } => return Ok(Reply::Answered(self.ask(id, question)?)),
         }
         Ok(Reply::Silent)

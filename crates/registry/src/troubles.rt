@@ -1,10 +1,12 @@
 // Why a command could not be carried out.
-ghost use Rattle.std.specs.Prelude.{Some};
+ghost use Rattle.std.specs.Prelude.{◌≡◌, Some};
 ghost use Rattle.registry.specs.Reasons.{reason};
+ghost use Rattle.registry.specs.declared.troubles.Trouble.TheVariants.{Memory};
 
+use std::alloc::{AllocError, AllocFailed};
 use std::fmt;
 
-#[derive(Clone, Copy, PartialEq)]
+#[derive(Clone, Copy, PartialEq, Eq)]
 pub enum Trouble {
     DeclaredTwice,
     NotDeclared,
@@ -28,5 +30,21 @@ impl fmt::Display for Trouble {
             Trouble::NotOpen => write!(f, "the host is not open"),
             Trouble::Memory => write!(f, "no memory is left"),
         }
+    }
+}
+
+impl From<AllocError> for Trouble {
+    ghost from_gives = { λ _ trouble. trouble ≡ Memory };
+
+    fn from(_e: AllocError) -> Trouble {
+        Trouble::Memory
+    }
+}
+
+impl<T: Drop> From<AllocFailed<T>> for Trouble {
+    ghost from_gives = { λ _ trouble. trouble ≡ Memory };
+
+    fn from(_e: AllocFailed<T>) -> Trouble {
+        Trouble::Memory
     }
 }

@@ -1,2 +1,1 @@
-mod Pieces
 pub mod Sameness

@@ -1,6 +1,7 @@
-use Rattle.std.specs.Prelude.{◌≡◌, ℕ, ◌<◌, ◌≤◌, Bool, true, false, List, [], ◌∷◌, ◌++◌, length, take, drop, Some, None, Option}
+use Rattle.std.specs.Prelude.{◌≡◌, ℕ, ◌<◌, ◌≤◌, List, [], ◌∷◌, ◌++◌, length, take, drop, Some, None, Ok, Err, Option, Result}
 use Rattle.std.specs.Borrow.{Bor}
 use Rattle.std.specs.List.{HoldsAt}
+use Rattle.roll.specs.declared.shape.Full.{Full}
 use Rattle.roll.specs.declared.shape.Roll.{Roll}
 
 -- what is on the roll, in order
@@ -11,12 +12,12 @@ contents r = take r.len r.items.now
 unfoldable pub beyond : {T : Type 0} → Roll T → List T
 beyond r = drop r.len r.items.now
 
--- yes: x is the new last element, and takes the place of the first element behind
--- no: nothing lies behind, and nothing has changed
-abbrev pub Pushed : {T : Type 0} → Roll T → T → Bool → Roll T → Type 0
-Pushed before x true after =
+-- done: x is the new last element, and takes the place of the first element behind
+-- refused: nothing lies behind, and nothing has changed
+abbrev pub Pushed : {T : Type 0} → Roll T → T → Result (Unit {0}) Full → Roll T → Type 0
+Pushed before x (Ok u) after =
     (0 < length (beyond before)) × (contents after ≡ contents before ++ (x ∷ [])) × (beyond after ≡ drop 1 (beyond before))
-Pushed before x false after =
+Pushed before x (Err e) after =
     (length (beyond before) ≡ 0) × (contents after ≡ contents before) × (beyond after ≡ beyond before)
 
 -- the element at the place, and none exactly past the end

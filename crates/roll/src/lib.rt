@@ -11,4 +11,4 @@ mod tests;
 
 pub use methods::holds;
 pub use same::Same;
-pub use shape::Roll;
+pub use shape::{Full, Roll};

@@ -1,9 +1,11 @@
+#![tactic(auto, unfolding(crate::specs::Rolls::contents, crate::specs::Rolls::beyond))]
+
 ghost use Rattle.std.specs.Prelude.{◌≡◌, [], ◌++◌, length, Decides};
 ghost use Rattle.roll.specs.Equality.{Among};
 ghost use Rattle.roll.specs.Rolls.{contents, beyond, Pushed, ReadAt};
 
 use super::same::Same;
-use super::shape::Roll;
+use super::shape::{Full, Roll};
 
 impl<'a, T: Same + Drop> Roll<'a, T> {
     // An empty roll: all of the memory lies behind its contents.
@@ -15,17 +17,17 @@ impl<'a, T: Same + Drop> Roll<'a, T> {
         Roll { items, len: 0 }
     }
 
-    // One more element at the end; false where the memory is full, and then nothing has changed.
-    pub fn push(&mut self, x: T) -> bool
+    // One more element at the end; refused where the memory is full, and then nothing has changed.
+    pub fn push(&mut self, x: T) -> Result<(), Full>
         ensures lent { self.new.items.ghost_name ≡ self.old.items.ghost_name }
         ensures pushed { Pushed self.old x result self.new }
     {
         if self.len >= self.items.len() {
-            return false;
+            return Err(Full);
         }
         self.items[self.len] = x;
         self.len += 1;
-        true
+        Ok(())
     }
 
     // Whether an element equal to `x` is on the roll.
@@ -39,11 +41,7 @@ impl<'a, T: Same + Drop> Roll<'a, T> {
     pub fn get(&self, place: usize) -> Option<&T>
         ensures { ReadAt (contents self.now) place result }
     {
-        if place >= self.len {
-            return None;
-        }
-        let items = &*self.items;
-        Some(&items[place])
+        self.as_slice().get(place)
     }
 
     // How many elements are on the roll.
@@ -73,10 +71,5 @@ impl<'a, T: Same + Drop> Roll<'a, T> {
 pub fn holds<T: Same>(ys: &[T], x: &T) -> bool
     ensures { Decides result (Among T.Same.same ys.now x.now) }
 {
-    for y in ys {
-        if y.is_same(x) {
-            return true;
-        }
-    }
-    false
+    ys.iter().any(|y| y.is_same(x))
 }

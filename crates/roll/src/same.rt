@@ -1,7 +1,8 @@
 ghost use Rattle.std.specs.Prelude.{◌≡◌, Bool, true, nat_eq};
 ghost use Rattle.std.proofs.Common.{rules};
 
-// An equality that is an equivalence. It may be coarser than equality of the values.
+// An equality that is an equivalence. It is a trait beside `Eq` because it may be coarser than `==`, of which a type has one:
+// candidates of a search are the same if their items are, and `==` compares how they were found too.
 pub trait Same {
     ghost same: { Self → Self → Bool };
 

@@ -1,32 +1,32 @@
 -- What the search for a breach tells of the supertrait law.
-use Rattle.std.proofs.Common.{◌≡◌, ℕ, ◌+◌, ◌<◌, ◌≤◌, Bool, true, false, cond, not, ◌&&◌, eqb, ◌⊎◌, List, [], ◌∷◌, length, get_or, drop, is_some, Some, None, Option, sym, refl, ap, ◌∙◌, subst, inl, inr}
-use Rattle.std.proofs.lemmas.List.{at_drop_more, at_drop_all}
+use Rattle.std.proofs.Common.{◌≡◌, ℕ, zero, suc, MatchOption, arith, ◌+◌, ◌<◌, Bool, true, false, MatchBool, cond, not, ◌&&◌, eqb, ◌⊎◌, List, [], ◌∷◌, length, get_or, option_map, is_some, Some, None, Option, sym, refl, ap, ◌∙◌, subst, inl, inr}
 use Rattle.std.proofs.lemmas.Bool.{cases_Bool, eq-eqb, eqb-true, or_cases, or_left, or_right, and_parts, and_from, not-true, not_from_false, both_ways}
 use Rattle.roll.specs.Equality.{on}
 use Rattle.host.specs.Meaning.{Meaning, ◌∈◌, supers_of, listed_from, joined}
 use Rattle.host.specs.Law.{SupersLawful}
-use Rattle.rows.specs.Lists.{either}
+use Rattle.std.specs.Option.{option_or}
 use Rattle.rows.specs.Breaches.{Tells, first_some, beginning, missing, entry_breach, breach_of}
 use Rattle.rows.specs.declared.laws.Breach.{Breach}
 use Rattle.rows.specs.declared.laws.Breach.TheVariants.{NotItself, Missing, Mutual}
 
-pub either_some : {X : Type 0} (o p : Option X) → is_some o ≡ true → o ≡ either o p
-either_some (Some x) p e = refl
-either_some None p e = absurd (both_ways true (sym e) refl)
+-- the first answer, by its place
+first_at : {Y : Type 0} (f : ℕ → Option Y) (xs : List ℕ) (y : Y) (i : ℕ) → i < length xs → f (get_or xs i 0) ≡ Some y → ((k : ℕ) → k < i → f (get_or xs k 0) ≡ None) → Some y ≡ first_some f xs
+first_at f [] y i h e n = absurd (omega arith)
+first_at f (x ∷ xs) y zero h e n = sym (ap (λ o. option_or o (first_some f xs)) e)
+first_at f (x ∷ xs) y (suc i) h e n = first_at f xs y i (omega arith) e (λ k l. n (suc k) (omega arith)) ∙ sym (ap (λ o. option_or o (first_some f xs)) (n 0 (omega arith)))
 
-pub either_none : {X : Type 0} (o p : Option X) → is_some o ≡ false → p ≡ either o p
-either_none None p e = refl
-either_none (Some x) p e = absurd (both_ways true e refl)
+first_none : {Y : Type 0} (f : ℕ → Option Y) (xs : List ℕ) → ((k : ℕ) → k < length xs → f (get_or xs k 0) ≡ None) → None ≡ first_some f xs
+first_none f [] n = refl
+first_none f (x ∷ xs) n = first_none f xs (λ k l. n (suc k) (omega arith)) ∙ sym (ap (λ o. option_or o (first_some f xs)) (n 0 (omega arith)))
 
--- the search for the first, one step on and at its end
-pub first_here : {Y : Type 0} (f : ℕ → Option Y) (xs : List ℕ) (i : ℕ) → i < length xs → is_some (f (get_or xs i 0)) ≡ true → f (get_or xs i 0) ≡ first_some f (drop i xs)
-first_here f xs i h e = either_some (f (get_or xs i 0)) (first_some f (drop (i + 1) xs)) e ∙ sym (at_drop_more (first_some f) xs i 0 h)
+pub first_found : {Y : Type 0} (f : ℕ → Option Y) (xs : List ℕ) (r : Option Y) → MatchOption r ((k : ℕ) → k < length xs → f (get_or xs k 0) ≡ None) (λ y. (i : ℕ) × (i < length xs) × (f (get_or xs i 0) ≡ Some y) × ((k : ℕ) → k < i → f (get_or xs k 0) ≡ None)) → r ≡ first_some f xs
+first_found f xs None n = first_none f xs n
+first_found f xs (Some y) h = first_at f xs y h.0 h.1 h.2 h.3
 
-pub first_later : {Y : Type 0} (f : ℕ → Option Y) (xs : List ℕ) (i : ℕ) → i < length xs → is_some (f (get_or xs i 0)) ≡ false → first_some f (drop i xs) ≡ first_some f (drop (i + 1) xs)
-first_later f xs i h e = at_drop_more (first_some f) xs i 0 h ∙ sym (either_none (f (get_or xs i 0)) (first_some f (drop (i + 1) xs)) e)
-
-pub first_end : {Y : Type 0} (f : ℕ → Option Y) (xs : List ℕ) (i : ℕ) → length xs ≤ i → first_some f (drop i xs) ≡ None
-first_end f xs i h = at_drop_all (first_some f) xs i h
+-- the first trait above an entry that is not among the supers, as the breach that it is
+pub missing_found : (supers : List ℕ) (u : ℕ) (above : List ℕ) (r : Option ℕ) → MatchOption r ((k : ℕ) → k < length above → on eqb supers (get_or above k 0) ≡ true) (λ v. (i : ℕ) × (i < length above) × (get_or above i 0 ≡ v) × (on eqb supers v ≡ false) × ((k : ℕ) → k < i → on eqb supers (get_or above k 0) ≡ true)) → option_map (Missing u) r ≡ first_some (missing supers u) above
+missing_found supers u above None n = first_none (missing supers u) above (λ k l. ap (λ b. cond b None (Some (Missing u (get_or above k 0)))) (n k l))
+missing_found supers u above (Some v) h = first_at (missing supers u) above (Missing u v) h.0 h.1 (ap (missing supers u) h.2 ∙ ap (λ b. cond b None (Some (Missing u v))) h.3) (λ k l. ap (λ b. cond b None (Some (Missing u (get_or above k 0)))) (h.4 k l))
 
 -- membership and its test
 pub on_from_in : (xs : List ℕ) (x : ℕ) → x ∈ xs → on eqb xs x ≡ true
@@ -57,13 +57,13 @@ first_cases {X} {Y} f (x ∷ xs) = step (f x) refl (first_cases f xs)
 
     step : (o : Option Y) → f x ≡ o → (((y : X) → y ∈ xs → f y ≡ None) × (first_some f xs ≡ None)) ⊎ ((is_some (first_some f xs) ≡ true) × Found f xs (first_some f xs)) → (((y : X) → y ∈ (x ∷ xs) → f y ≡ None) × (first_some f (x ∷ xs) ≡ None)) ⊎ ((is_some (first_some f (x ∷ xs)) ≡ true) × Found f (x ∷ xs) (first_some f (x ∷ xs)))
     step (Some y) e k =
-        let all : either (f x) (first_some f xs) ≡ Some y = ap (λ o. either o (first_some f xs)) e in
+        let all : option_or (f x) (first_some f xs) ≡ Some y = ap (λ o. option_or o (first_some f xs)) e in
         inr (ap is_some all, record { where' = x; among = inl refl; is = e ∙ sym all })
     step None e (inl k) =
-        let all : either (f x) (first_some f xs) ≡ None = ap (λ o. either o (first_some f xs)) e ∙ k.1 in
+        let all : option_or (f x) (first_some f xs) ≡ None = ap (λ o. option_or o (first_some f xs)) e ∙ k.1 in
         inl (λ y h. here y e k.0 h, all)
     step None e (inr k) =
-        let all : either (f x) (first_some f xs) ≡ first_some f xs = ap (λ o. either o (first_some f xs)) e in
+        let all : option_or (f x) (first_some f xs) ≡ first_some f xs = ap (λ o. option_or o (first_some f xs)) e in
         inr (ap is_some all ∙ k.0, record { where' = k.1.where'; among = inr k.1.among; is = k.1.is ∙ sym all })
 
 never_some : {X : Type 0} {A : Type 0} (x : X) → Some x ≡ None → A
@@ -114,13 +114,13 @@ module _ (m : Meaning) (t : ℕ) where
     where
       step : (other u ≡ true) ⊎ (other u ≡ false) → (((x : ℕ) → x ∈ supers_of m u → missing (supers_of m t) u x ≡ None) × (first_some (missing (supers_of m t) u) (supers_of m u) ≡ None)) ⊎ ((is_some (first_some (missing (supers_of m t) u) (supers_of m u)) ≡ true) × Found (missing (supers_of m t) u) (supers_of m u) (first_some (missing (supers_of m t) u) (supers_of m u))) → CleanAt u ⊎ ((is_some (entry_breach m t (supers_of m t) u) ≡ true) × Tells m t (entry_breach m t (supers_of m t) u))
       step (inl k) c =
-          let is : Some (Mutual u) ≡ entry_breach m t (supers_of m t) u = sym (ap (λ b. either (cond b (Some (Mutual u)) None) (first_some (missing (supers_of m t) u) (supers_of m u))) k) in
+          let is : Some (Mutual u) ≡ entry_breach m t (supers_of m t) u = sym (ap (λ b. option_or (cond b (Some (Mutual u)) None) (first_some (missing (supers_of m t) u) (supers_of m u))) k) in
           inr (sym (ap is_some is), subst (Tells m t) is (mutual_tells u a k))
       step (inr k) (inl c) =
-          let is : entry_breach m t (supers_of m t) u ≡ first_some (missing (supers_of m t) u) (supers_of m u) = ap (λ b. either (cond b (Some (Mutual u)) None) (first_some (missing (supers_of m t) u) (supers_of m u))) k in
+          let is : entry_breach m t (supers_of m t) u ≡ first_some (missing (supers_of m t) u) (supers_of m u) = ap (λ b. option_or (cond b (Some (Mutual u)) None) (first_some (missing (supers_of m t) u) (supers_of m u))) k in
           inl (record { none = is ∙ c.1; same = apart u k; listed = λ v h. listed_above u v (c.0 v h) })
       step (inr k) (inr c) =
-          let is : entry_breach m t (supers_of m t) u ≡ first_some (missing (supers_of m t) u) (supers_of m u) = ap (λ b. either (cond b (Some (Mutual u)) None) (first_some (missing (supers_of m t) u) (supers_of m u))) k in
+          let is : entry_breach m t (supers_of m t) u ≡ first_some (missing (supers_of m t) u) (supers_of m u) = ap (λ b. option_or (cond b (Some (Mutual u)) None) (first_some (missing (supers_of m t) u) (supers_of m u))) k in
           inr (ap is_some is ∙ c.0, subst (Tells m t) (sym is) (missing_tells u c.1.where' _ a c.1.among c.1.is c.0))
 
   supers_begin : (x : ℕ) → m.supers t 0 ≡ Some x → (xs : List ℕ) × (supers_of m t ≡ x ∷ xs)
@@ -135,7 +135,7 @@ module _ (m : Meaning) (t : ℕ) where
       start = ap (beginning t) (supers_begin x e).1
 
       later : eqb x t ≡ true → first_some (entry_breach m t (supers_of m t)) (supers_of m t) ≡ breach_of m t
-      later k = sym (ap (λ o. either o (first_some (entry_breach m t (supers_of m t)) (supers_of m t))) (start ∙ ap (λ b. cond b None (Some (NotItself x))) k))
+      later k = sym (ap (λ o. option_or o (first_some (entry_breach m t (supers_of m t)) (supers_of m t))) (start ∙ ap (λ b. cond b None (Some (NotItself x))) k))
 
       clean : (u : ℕ) → u ∈ supers_of m t → entry_breach m t (supers_of m t) u ≡ None → CleanAt u
       clean u a n = only (entry_cases u a)
@@ -153,7 +153,7 @@ module _ (m : Meaning) (t : ℕ) where
 
       step : (eqb x t ≡ true) ⊎ (eqb x t ≡ false) → (((u : ℕ) → u ∈ supers_of m t → entry_breach m t (supers_of m t) u ≡ None) × (first_some (entry_breach m t (supers_of m t)) (supers_of m t) ≡ None)) ⊎ ((is_some (first_some (entry_breach m t (supers_of m t)) (supers_of m t)) ≡ true) × Found (entry_breach m t (supers_of m t)) (supers_of m t) (first_some (entry_breach m t (supers_of m t)) (supers_of m t))) → Tells m t (breach_of m t)
       step (inr k) c =
-          let is : Some (NotItself x) ≡ breach_of m t = sym (ap (λ o. either o (first_some (entry_breach m t (supers_of m t)) (supers_of m t))) (start ∙ ap (λ b. cond b None (Some (NotItself x))) k)) in
+          let is : Some (NotItself x) ≡ breach_of m t = sym (ap (λ o. option_or o (first_some (entry_breach m t (supers_of m t)) (supers_of m t))) (start ∙ ap (λ b. cond b None (Some (NotItself x))) k)) in
           subst (Tells m t) is (e, λ q. both_ways (eqb x t) k (eq-eqb x t q))
       step (inl k) (inl c) =
           let law : SupersLawful m t = record {
@@ -178,6 +178,11 @@ breach_breaks m t (Some (Mutual u)) h e l = h.2 (l.one u h.0 h.1)
 pub breach_none : (m : Meaning) (t : ℕ) (r : Option Breach) → Tells m t r → is_some r ≡ false → SupersLawful m t
 breach_none m t None h e = h
 breach_none m t (Some b) h e = absurd (both_ways true e refl)
+
+-- what an answer tells, by whether it is a breach
+pub broken_or_lawful : (m : Meaning) (t : ℕ) (r : Option Breach) → Tells m t r → MatchBool (is_some r) (SupersLawful m t → ⊥) (SupersLawful m t)
+broken_or_lawful m t None h = h
+broken_or_lawful m t (Some b) h = breach_breaks m t (Some b) h refl
 
 -- a trait whose only super is itself
 pub alone_lawful : (m : Meaning) (t : ℕ) → m.supers t 0 ≡ Some t → supers_of m t ≡ t ∷ [] → SupersLawful m t

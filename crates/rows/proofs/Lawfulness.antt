@@ -1,9 +1,10 @@
 -- A table keeps the laws where the supertrait law holds at each trait that a row speaks of.
-use Rattle.std.proofs.Common.{◌≡◌, ℕ, zero, suc, ◌+◌, ◌^◌, ◌<◌, ◌≤◌, Bool, true, false, cond, ◌&&◌, eqb, ltb, ◌⊎◌, List, [], ◌∷◌, ◌++◌, map, length, get_or, is_some, Some, None, Option, sym, refl, ap, ◌∙◌, subst, inl, inr, arith}
-use Rattle.std.specs.List.{AllByRecursion as All, slice_get}
+use Rattle.std.proofs.Common.{◌≡◌, ℕ, zero, suc, ◌+◌, ◌^◌, ◌<◌, ◌≤◌, Bool, true, false, MatchBool, not, cond, ◌&&◌, eqb, ltb, ◌⊎◌, List, [], ◌∷◌, ◌++◌, map, length, get_or, is_some, Some, None, Option, sym, refl, ap, ◌∙◌, subst, inl, inr, arith}
+use Rattle.std.specs.Option.{option_or}
+use Rattle.std.specs.List.{AllWithin, HoldsAt, slice_get}
 use Rattle.std.proofs.lemmas.Option.{slice_get_past}
-use Rattle.std.proofs.lemmas.Bool.{cases_Bool, cases_eq, cases_lt, eq-eqb, eqb-true, ne_eqb, le-ltb, and_parts, and_from, and_left, and_right, both_ways}
-use Rattle.host.specs.Meaning.{Meaning, supers_of, listed, listed_from, joined}
+use Rattle.std.proofs.lemmas.Bool.{cases_Bool, cases_lt, eq-eqb, eqb-true, ne_eqb, le-ltb, and_parts, and_from, and_left, and_right, both_ways}
+use Rattle.host.specs.Meaning.{supers_of, listed, listed_from, joined}
 use Rattle.host.specs.Questions.{answer, askable, small}
 use Rattle.host.specs.Law.{SupersLawful, SupertraitLaw, Lawful, empty_host}
 use Rattle.host.specs.declared.questions.Answer.TheVariants as reply
@@ -11,24 +12,28 @@ use Rattle.host.specs.declared.questions.Question.{Question}
 use Rattle.host.specs.declared.questions.Question.TheVariants as asks
 use Rattle.rows.specs.declared.lists.Listing.{Listing}
 use Rattle.rows.specs.declared.lists.Listing.TheVariants as list
+use Rattle.rows.specs.declared.rows.Key.{Key}
 use Rattle.rows.specs.declared.rows.Row.{Row}
-use Rattle.rows.specs.Rows.{key_of, fits, first_row, asked_rows}
-use Rattle.rows.specs.Lists.{at, itself, default_rows, row_at, entries, either, matched}
+use Rattle.rows.specs.Rows.{key_of, fits, first_row, asked_rows, row_for}
+use Rattle.rows.specs.Lists.{at, itself, default_rows, row_at, entries, matched}
 use Rattle.rows.specs.Tables.{tabled, form_in, number_in, item_of, item_in, mark_in, marks_in}
 use Rattle.rows.proofs.Answering.{no_row}
 use Rattle.rows.proofs.Gathering.{first_row-push, length-listed, askable_at}
 use Rattle.rows.proofs.ListFacts.{list_ends, listed_is}
-use Rattle.rows.specs.Breaches.{Tells, breach_of}
+use Rattle.rows.specs.Breaches.{Tells, breach_of, Broken, Unbroken}
 use Rattle.rows.specs.declared.laws.Breach.{Breach}
 use Rattle.rows.proofs.Breaking.{alone_lawful, breach_tells, breach_breaks, breach_none}
+
+never : {A : Type 0} {r : Row} → None ≡ Some r → A
+never e = let z : ◌≡◌ {A = ℕ} 0 1 = cc in absurd (omega arith)
 
 -- a trait's supers are the answers of its list's rows
 pub supers_are : (rs : List Row) (t : ℕ) → supers_of (tabled rs) t ≡ map (λ r. r.r1) (entries rs (list.Supers t))
 supers_are rs t = listed_is (λ r. r.r1) (entries rs (list.Supers t)) (length-listed (row_at rs (list.Supers t)) 0 64)
 
-nth_first : {X : Type 0} (f : ℕ → Option X) → slice_get (listed f) 0 ≡ f 0
+listed_first : {X : Type 0} (f : ℕ → Option X) → slice_get (listed f) 0 ≡ f 0
 unfolding listed_from
-nth_first {X} f = step (f 0) (listed_from f (0 + 1) 63)
+listed_first {X} f = step (f 0) (listed_from f (0 + 1) 63)
   where
     step : (o : Option X) (xs : List X) → slice_get (joined o xs) 0 ≡ o
     step None xs = refl
@@ -42,21 +47,18 @@ itself_later t = ap (λ b. cond b (Some (itself t)) None) (and_right (eqb t t) f
 
 -- a trait's supers are never empty
 pub supers_begin : (rs : List Row) (t : ℕ) → (x : ℕ) × ((tabled rs).supers t 0 ≡ Some x)
-supers_begin rs t = step (first_row (asked_rows rs (asks.Supers t 0)) (key_of (asks.Supers t 0))) refl
+supers_begin rs t = step (row_for rs (asks.Supers t 0)) refl
   where
-    rows : List Row
-    rows = asked_rows rs (asks.Supers t 0)
+    first : (tabled rs).supers t 0 ≡ number_in (option_or (row_for rs (asks.Supers t 0)) (Some (itself t)))
+    first = ap number_in (listed_first (row_at rs (list.Supers t)) ∙ first_row-push (asked_rows rs (asks.Supers t 0)) (itself t) (key_of (asks.Supers t 0)) ∙ ap (option_or (row_for rs (asks.Supers t 0))) (itself_first t))
 
-    first : (tabled rs).supers t 0 ≡ number_in (either (first_row (asked_rows rs (asks.Supers t 0)) (key_of (asks.Supers t 0))) (Some (itself t)))
-    first = ap number_in (nth_first (row_at rs (list.Supers t)) ∙ first_row-push (asked_rows rs (asks.Supers t 0)) (itself t) (key_of (asks.Supers t 0)) ∙ ap (either (first_row (asked_rows rs (asks.Supers t 0)) (key_of (asks.Supers t 0)))) (itself_first t))
-
-    step : (o : Option Row) → first_row (asked_rows rs (asks.Supers t 0)) (key_of (asks.Supers t 0)) ≡ o → (x : ℕ) × ((tabled rs).supers t 0 ≡ Some x)
-    step (Some r) e = (r.r1, first ∙ ap (λ o. number_in (either o (Some (itself t)))) e)
-    step None e = (t, first ∙ ap (λ o. number_in (either o (Some (itself t)))) e)
+    step : (o : Option Row) → row_for rs (asks.Supers t 0) ≡ o → (x : ℕ) × ((tabled rs).supers t 0 ≡ Some x)
+    step (Some r) e = (r.r1, first ∙ ap (λ o. number_in (option_or o (Some (itself t)))) e)
+    step None e = (t, first ∙ ap (λ o. number_in (option_or o (Some (itself t)))) e)
 
 -- a trait with no row at place 0 or 1
 abbrev Unspoken : List Row → ℕ → Type 0
-Unspoken rs t = (p : ℕ) → p ≤ 1 → first_row (asked_rows rs (asks.Supers t p)) (key_of (asks.Supers t p)) ≡ None
+Unspoken rs t = (row_for rs (asks.Supers t 0) ≡ None) × (row_for rs (asks.Supers t 1) ≡ None)
 
 sole_entry : {X : Type 0} (f : ℕ → Option X) (x : X) → f 0 ≡ Some x → f 1 ≡ None → listed f ≡ x ∷ []
 unfolding listed_from
@@ -64,66 +66,52 @@ sole_entry f x e n = ap (λ o. joined o (listed_from f (0 + 1) 63)) e ∙ ap (λ
 
 unspoken_entries : (rs : List Row) (t : ℕ) → Unspoken rs t → entries rs (list.Supers t) ≡ itself t ∷ []
 unspoken_entries rs t u = sole_entry (row_at rs (list.Supers t)) (itself t)
-    (first_row-push (asked_rows rs (asks.Supers t 0)) (itself t) (key_of (asks.Supers t 0)) ∙ ap (λ o. either o (matched (itself t) (key_of (asks.Supers t 0)))) (u 0 (omega arith)) ∙ itself_first t)
-    (first_row-push (asked_rows rs (asks.Supers t 1)) (itself t) (key_of (asks.Supers t 1)) ∙ ap (λ o. either o (matched (itself t) (key_of (asks.Supers t 1)))) (u 1 (omega arith)) ∙ itself_later t)
+    (first_row-push (asked_rows rs (asks.Supers t 0)) (itself t) (key_of (asks.Supers t 0)) ∙ ap (λ o. option_or o (matched (itself t) (key_of (asks.Supers t 0)))) u.0 ∙ itself_first t)
+    (first_row-push (asked_rows rs (asks.Supers t 1)) (itself t) (key_of (asks.Supers t 1)) ∙ ap (λ o. option_or o (matched (itself t) (key_of (asks.Supers t 1)))) u.1 ∙ itself_later t)
 
 unspoken_lawful : (rs : List Row) (t : ℕ) → Unspoken rs t → SupersLawful (tabled rs) t
 unspoken_lawful rs t u =
     let are = unspoken_entries rs t u in
     alone_lawful (tabled rs) t (ap (λ es. number_in (slice_get es 0)) are) (supers_are rs t ∙ ap (map (λ r. r.r1)) are)
 
--- a row from which a trait's supers can be more than the trait
-abbrev Speaks : ℕ → Row → Type 0
-Speaks t r = (r.question ≡ 6) × (r.a1 ≡ t) × (r.a2 ≤ 1)
-
-silent_row : (t p : ℕ) (r : Row) → p ≤ 1 → (Speaks t r → ⊥) → fits r (key_of (asks.Supers t p)) ≡ false
-silent_row t p r h no' = step (cases_Bool (fits r (key_of (asks.Supers t p))))
+-- what holds of all rows holds of the one that answers, and that one has the key
+found_row : (P : Row → Type 0) (rs : List Row) (k : Key) (r : Row) → AllWithin P rs 0 (length rs) → first_row rs k ≡ Some r → P r × (fits r k ≡ true)
+found_row P [] k r a e = never e
+found_row P (x ∷ rs) k r a e = step (fits x k) refl (found_row P rs k r (λ i d l h. a (suc i) d (omega arith) (omega arith))) e
   where
-    step : (fits r (key_of (asks.Supers t p)) ≡ true) ⊎ (fits r (key_of (asks.Supers t p)) ≡ false) → fits r (key_of (asks.Supers t p)) ≡ false
-    step (inr e) = e
-    step (inl e) =
-        let a = and_parts (eqb r.question 6) _ e in
-        let b = and_parts (eqb r.a1 t) _ a.1 in
-        let c = and_parts (eqb r.a2 p) _ b.1 in
-        let is = eqb-true r.a2 p c.0 in
-        absurd (no' (eqb-true r.question 6 a.0, eqb-true r.a1 t b.0, omega arith))
+    step : (b : Bool) → fits x k ≡ b → (first_row rs k ≡ Some r → P r × (fits r k ≡ true)) → cond b (Some x) (first_row rs k) ≡ Some r → P r × (fits r k ≡ true)
+    step true f more e = let is : x ≡ r = cc in subst (λ y. P y × (fits y k ≡ true)) is (a 0 no_row (omega arith) (omega arith), f)
+    step false f more e = more e
 
-silent_rows : (t p : ℕ) (rs : List Row) → p ≤ 1 → All (λ r. Speaks t r → ⊥) rs → first_row rs (key_of (asks.Supers t p)) ≡ None
-silent_rows t p [] h a = refl
-silent_rows t p (r ∷ rs) h a = ap (λ b. cond b (Some r) (first_row rs (key_of (asks.Supers t p)))) (silent_row t p r h a.0) ∙ silent_rows t p rs h a.1
-
-silent_asked : (t p : ℕ) (rs : List Row) (b : Bool) → p ≤ 1 → All (λ r. Speaks t r → ⊥) rs → first_row (cond b rs []) (key_of (asks.Supers t p)) ≡ None
-silent_asked t p rs true h a = silent_rows t p rs h a
-silent_asked t p rs false h a = refl
-
-speaks_or_not : (t : ℕ) (r : Row) → Speaks t r ⊎ (Speaks t r → ⊥)
-speaks_or_not t r = step (cases_eq r.question 6) (cases_eq r.a1 t) (cases_lt 1 r.a2)
+-- a row at place 0 or 1 is one at which the law was looked at
+spoken : (rs : List Row) (t p : ℕ) (r : Row) → AllWithin (Unbroken (tabled rs)) rs 0 (length rs) → p ≤ 1 → row_for rs (asks.Supers t p) ≡ Some r → SupersLawful (tabled rs) t
+spoken rs t p r a l e = step (askable (asks.Supers t p)) e
   where
-    step : (r.question ≡ 6) ⊎ (r.question ≡ 6 → ⊥) → (r.a1 ≡ t) ⊎ (r.a1 ≡ t → ⊥) → (1 < r.a2) ⊎ (r.a2 ≤ 1) → Speaks t r ⊎ (Speaks t r → ⊥)
-    step (inl a) (inl b) (inr c) = inl (a, b, c)
-    step (inl a) (inl b) (inl c) = inr (λ s. let d = s.2 in omega arith)
-    step (inl a) (inr b) c = inr (λ s. b s.1)
-    step (inr a) b c = inr (λ s. a s.0)
+    step : (b : Bool) → first_row (cond b rs []) (key_of (asks.Supers t p)) ≡ Some r → SupersLawful (tabled rs) t
+    step false e = never e
+    step true e =
+        let found = found_row (Unbroken (tabled rs)) rs (key_of (asks.Supers t p)) r a e in
+        let question = and_parts (eqb r.key.question 6) _ found.1 in
+        let trait = and_parts (eqb r.key.a1 t) _ question.1 in
+        let place = eqb-true r.key.a2 p (and_parts (eqb r.key.a2 p) _ trait.1).0 in
+        subst (SupersLawful (tabled rs)) (eqb-true r.key.a1 t trait.0) (found.0 (eqb-true r.key.question 6 question.0, omega arith))
 
-find_speaker : (t : ℕ) (rs : List Row) → All (λ r. Speaks t r → ⊥) rs ⊎ ((k : ℕ) × (k < length rs) × Speaks t (get_or rs k no_row))
-find_speaker t [] = inl tt
-find_speaker t (r ∷ rs) = step (speaks_or_not t r) (find_speaker t rs)
+lawful_from_rows : (rs : List Row) → AllWithin (Unbroken (tabled rs)) rs 0 (length rs) → (t : ℕ) → SupersLawful (tabled rs) t
+lawful_from_rows rs a t = step (row_for rs (asks.Supers t 0)) refl (row_for rs (asks.Supers t 1)) refl
   where
-    step : Speaks t r ⊎ (Speaks t r → ⊥) → All (λ x. Speaks t x → ⊥) rs ⊎ ((k : ℕ) × (k < length rs) × Speaks t (get_or rs k no_row)) → All (λ x. Speaks t x → ⊥) (r ∷ rs) ⊎ ((k : ℕ) × (k < length (r ∷ rs)) × Speaks t (get_or (r ∷ rs) k no_row))
-    step (inl s) c = inr (0, omega arith, s)
-    step (inr n) (inl a) = inl (n, a)
-    step (inr n) (inr f) = let h = f.1 in inr (suc f.0, omega arith, f.2)
+    step : (o : Option Row) → row_for rs (asks.Supers t 0) ≡ o → (p : Option Row) → row_for rs (asks.Supers t 1) ≡ p → SupersLawful (tabled rs) t
+    step (Some r) e p f = spoken rs t 0 r a (omega arith) e
+    step None e (Some r) f = spoken rs t 1 r a (omega arith) f
+    step None e None f = unspoken_lawful rs t (e, f)
 
--- the law was looked at for the trait of this row
-abbrev pub Checked : Meaning → Row → Type 0
-Checked m r = r.question ≡ 6 → r.a2 ≤ 1 → SupersLawful m r.a1
+-- the law holds everywhere if it breaks at no row
+pub lawful_or_broken : (rs : List Row) (b : Bool) → MatchBool b ((k : ℕ) × (k < length rs) × HoldsAt (Broken (tabled rs)) rs k) (AllWithin (Unbroken (tabled rs)) rs 0 (length rs)) → MatchBool (not b) (SupertraitLaw (tabled rs)) ((t : ℕ) × (t < 2 ^ 32) × (SupersLawful (tabled rs) t → ⊥))
+lawful_or_broken rs true h = let broken = h.2 no_row in ((get_or rs h.0 no_row).key.a1, broken.0, broken.1)
+lawful_or_broken rs false h = λ t l. lawful_from_rows rs h t
 
-pub lawful_from_checked : (rs : List Row) → ((k : ℕ) → k < length rs → Checked (tabled rs) (get_or rs k no_row)) → (t : ℕ) → SupersLawful (tabled rs) t
-lawful_from_checked rs h t = step (find_speaker t rs)
-  where
-    step : All (λ r. Speaks t r → ⊥) rs ⊎ ((k : ℕ) × (k < length rs) × Speaks t (get_or rs k no_row)) → SupersLawful (tabled rs) t
-    step (inl a) = unspoken_lawful rs t (λ p l. silent_asked t p rs (askable (asks.Supers t p)) l a)
-    step (inr f) = subst (SupersLawful (tabled rs)) f.2.1 (h f.0 f.1 f.2.0 f.2.2)
+-- an answer that is the first breach tells what it should
+pub told : (rs : List Row) (t : ℕ) (r : Option Breach) → r ≡ breach_of (tabled rs) t → Tells (tabled rs) t r
+told rs t r e = let first = supers_begin rs t in subst (Tells (tabled rs) t) (sym e) (breach_tells (tabled rs) t first.0 first.1)
 
 -- where the law holds no breach is found, and the other way round
 pub unbroken : (rs : List Row) (t : ℕ) → SupersLawful (tabled rs) t → is_some (breach_of (tabled rs) t) ≡ false
@@ -172,7 +160,10 @@ too_large t p e = step (cases_Bool (ltb t (2 ^ 32)))
     step (inl h) = absurd (both_ways (small (t ∷ 0 ∷ [])) e (and_from (ltb t (2 ^ 32)) true h refl))
 
 large_unspoken : (rs : List Row) (t : ℕ) → askable (asks.Supers t 0) ≡ false → Unspoken rs t
-large_unspoken rs t e p h = ap (λ b. first_row (cond b rs []) (key_of (asks.Supers t p))) (too_large t p e)
+large_unspoken rs t e = (none 0, none 1)
+  where
+    none : (p : ℕ) → row_for rs (asks.Supers t p) ≡ None
+    none p = ap (λ b. first_row (cond b rs []) (key_of (asks.Supers t p))) (too_large t p e)
 
 unasked_supers : (rs : List Row) (t p : ℕ) → askable (asks.Supers t p) ≡ false → number_in (slice_get (entries rs (list.Supers t)) p) ≡ cond (eqb p 0) (Some t) None
 unasked_supers rs t p e = step (askable_first (list.Supers t) p e)
@@ -185,13 +176,13 @@ beyond : (rs : List Row) (q : Question) → askable q ≡ false → answer (tabl
 beyond rs (asks.Form t) e = ap (λ b. reply.Form (form_in (first_row (cond b rs []) (key_of (asks.Form t))))) e
 beyond rs (asks.Own t p) e = ap (λ o. reply.Number (number_in o)) (unasked rs (list.Own t) p refl e)
 beyond rs (asks.Stray t p) e = ap (λ o. reply.Number (number_in o)) (unasked rs (list.Stray t) p refl e)
-beyond rs (asks.Item k c p) e = ap (λ o. reply.Item (item_in o)) (unasked rs (list.Items k c) p refl e)
+beyond rs (asks.Item a) e = ap (λ o. reply.Item (item_in o)) (unasked rs (list.Items a.kind a.container) a.place refl e)
 beyond rs (asks.Bound t p) e = ap (λ o. reply.Number (number_in o)) (unasked rs (list.Bounds t) p refl e)
 beyond rs (asks.Supers t p) e = ap reply.Number (unasked_supers rs t p e)
-beyond rs (asks.Visible k c p) e = ap (λ b. reply.Mark (mark_in (first_row (cond b rs []) (key_of (asks.Visible k c p))))) e
+beyond rs (asks.Visible a) e = ap (λ b. reply.Mark (mark_in (first_row (cond b rs []) (key_of (asks.Visible a))))) e
 beyond rs (asks.Skips t) e = ap (λ b. reply.Marks (marks_in (first_row (cond b rs []) (key_of (asks.Skips t)))).0 (marks_in (first_row (cond b rs []) (key_of (asks.Skips t)))).1) e
-beyond rs (asks.Applies k c p o t w d) e = ap (λ b. reply.Mark (mark_in (first_row (cond b rs []) (key_of (asks.Applies k c p o t w d))))) e
-beyond rs (asks.Source c p t w d) e = ap (λ b. reply.Number (number_in (first_row (cond b rs []) (key_of (asks.Source c p t w d))))) e
+beyond rs (asks.Applies a) e = ap (λ b. reply.Mark (mark_in (first_row (cond b rs []) (key_of (asks.Applies a))))) e
+beyond rs (asks.Source a) e = ap (λ b. reply.Number (number_in (first_row (cond b rs []) (key_of (asks.Source a))))) e
 
 at_most : (rs : List Row) (l : Listing) → length (entries rs l) ≤ 64
 at_most rs l = length-listed (row_at rs l) 0 64

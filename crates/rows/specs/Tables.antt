@@ -66,8 +66,8 @@ tabled rs = record {
   item = λ k c p. item_in (slice_get (entries rs (list.Items k c)) p);
   bound = λ t p. number_in (slice_get (entries rs (list.Bounds t)) p);
   supers = λ t p. number_in (slice_get (entries rs (list.Supers t)) p);
-  visible = λ k c p. mark_in (row_for rs (asks.Visible k c p));
+  visible = λ k c p. mark_in (row_for rs (asks.Visible (record { kind = k; container = c; place = p })));
   skips = λ t. marks_in (row_for rs (asks.Skips t));
-  applies = λ k c p o t w d. mark_in (row_for rs (asks.Applies k c p o t w d));
-  source = λ c p t w d. number_in (row_for rs (asks.Source c p t w d));
+  applies = λ k c p o t w d. mark_in (row_for rs (asks.Applies (record { class = k; container = c; place = p; origin = o; ty = t; wrap = w; mode = d })));
+  source = λ c p t w d. number_in (row_for rs (asks.Source (record { tr = c; place = p; ty = t; wrap = w; mode = d })));
 }

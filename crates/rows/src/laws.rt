@@ -1,17 +1,20 @@
 // The supertrait law, checked over the rows.
-ghost use Rattle.std.specs.Prelude.{◌≡◌, ℕ, ◌^◌, ◌<◌, [], length, MatchBool};
-ghost use Rattle.roll.specs.Rolls.{contents, beyond};
+ghost use Rattle.std.specs.Prelude.{◌≡◌, ℕ, ◌^◌, ◌<◌, nat_eq, Some, IsTrue, ◌↔◌, MatchBool};
+ghost use Rattle.roll.specs.Equality.{on};
+ghost use Rattle.roll.specs.Rolls.{contents};
 ghost use Rattle.host.specs.Law.{SupersLawful, SupertraitLaw};
 ghost use Rattle.host.specs.Meaning.{supers_of};
-ghost use Rattle.rows.specs.Breaches.{Tells, first_some, beginning, missing, entry_breach, breach_of};
+ghost use Rattle.rows.specs.Breaches.{Tells, first_some, beginning, missing, entry_breach, breach_of, said, Begins, Broken, Unbroken};
 ghost use Rattle.rows.specs.Tables.{tabled};
 
 use super::lists::{Listing, gather};
 use super::rows::Row;
-use roll::Roll;
+use host::QuestionKind;
+use roll::{Roll, holds};
+use std::fmt;
 
 // How the supertrait law breaks at a trait.
-#[derive(Clone, Copy, PartialEq)]
+#[derive(Clone, Copy, PartialEq, Eq)]
 pub enum Breach {
     // Its supers begin with another trait.
     NotItself { first: u32 },
@@ -21,71 +24,104 @@ pub enum Breach {
     Mutual { other: u32 },
 }
 
-// Puts a trait's supers on an empty roll of 64, from one pass over the rows.
-fn gather_supers(rows: &[Row], tr: u32, list: &mut Roll<'_, u32>)
-    requires empty { contents list.old ≡ [] }
-    requires room { length (beyond list.old) ≡ 64 }
-    ensures lent { list.new.items.ghost_name ≡ list.old.items.ghost_name }
-    ensures supers { contents list.new ≡ supers_of (tabled rows.now) tr }
-{
-    let slots = gather(rows, Listing::Supers { tr });
-    for slot in slots.iter() {
-        let Some(row) = slot else {
-            return;
-        };
-        let _ = list.push(row.r1);
-    }
-}
+// What is said of the trait at which it breaks.
+impl fmt::Display for Breach {
+    ghost output = { λ breach. Some (said breach) };
 
-// The first trait above an entry that is not among the supers.
-fn missing_above(supers: &Roll<'_, u32>, entry: u32, above: &[u32]) -> Option<Breach>
-    ensures { result ≡ first_some (missing (contents supers.now) entry) above.now }
-{
-    for tr in above {
-        if !supers.has(tr) {
-            return Some(Breach::Missing {
-                entry,
-                missing: *tr,
-            });
+    fn fmt<W: fmt::Write>(&self, f: &mut fmt::Formatter<W>) -> fmt::Result {
+        match *self {
+            Breach::NotItself { first } => write!(f, "its supers begin with trait {first}"),
+            Breach::Missing { entry, missing } => write!(
+                f,
+                "its supers have trait {entry} and lack trait {missing}, which is above that"
+            ),
+            Breach::Mutual { other } => write!(f, "it and trait {other} stand above each other"),
         }
     }
-    None
 }
 
-// What is wrong between a trait and an entry of its supers.
-fn breach_at(rows: &[Row], tr: u32, supers: &Roll<'_, u32>, entry: u32) -> Option<Breach>
-    ensures { result ≡ entry_breach (tabled rows.now) tr (contents supers.now) entry }
-{
-    let mut memory = [0; 64];
-    let mut above = Roll::new(&mut memory);
-    gather_supers(rows, entry, &mut above);
-    if entry != tr && above.has(&tr) {
-        return Some(Breach::Mutual { other: entry });
+// A trait's supers over rows, in their order. They stand in memory that a caller lends, since opening a table allocates
+// nothing.
+#[derive(Clone, Copy)]
+struct Supers<'a> {
+    rows: &'a [Row],
+    tr: u32,
+    list: &'a [u32],
+    ghost whole: { list.now ≡ supers_of (tabled rows.now) tr },
+}
+
+impl<'a> Supers<'a> {
+    // One pass over the rows finds them all.
+    fn gather(rows: &'a [Row], tr: u32, memory: &'a mut [u32; 64]) -> Supers<'a>
+        ensures rows { result.rows.now ≡ rows.now }
+        ensures tr { result.tr ≡ tr }
+    {
+        let slots = gather(rows, Listing::Supers { tr });
+        let mut list = Roll::new(memory);
+        // A loop of its own: a function for all that push what an iterator gives would be public, and have to ask that it ends.
+        for row in slots.iter().map_while(|slot| *slot) {
+            // There is room for every slot.
+            let _ = list.push(row.r1);
+        }
+        let count = list.finish();
+        let list = &memory[..count];
+        Supers { rows, tr, list }
     }
-    missing_above(supers, entry, above.as_slice())
-}
 
-// What is wrong with the beginning of a trait's supers.
-fn beginning(tr: u32, supers: &Roll<'_, u32>) -> Option<Breach>
-    ensures { result ≡ beginning tr (contents supers.now) }
-{
-    match supers.as_slice() {
-        [first, ..] if *first != tr => Some(Breach::NotItself { first: *first }),
-        _ => None,
+    fn has(&self, tr: u32) -> bool
+        ensures { result ≡ on nat_eq self.now.list.now tr }
+    {
+        holds(self.list, &tr)
     }
-}
 
-// The first breach between a trait and the entries of its supers, in their order.
-fn breach_below(rows: &[Row], tr: u32, supers: &Roll<'_, u32>) -> Option<Breach>
-    ensures { result ≡ first_some (entry_breach (tabled rows.now) tr (contents supers.now)) (contents supers.now) }
-{
-    for entry in supers.as_slice() {
-        let found = breach_at(rows, tr, supers, *entry);
-        if found.is_some() {
-            return found;
+    // What is wrong with their beginning.
+    fn beginning(&self) -> Option<Breach>
+        ensures { result ≡ beginning self.now.tr self.now.list.now }
+    {
+        match self.list {
+            [first, ..] if *first != self.tr => Some(Breach::NotItself { first: *first }),
+            _ => None,
         }
     }
-    None
+
+    // The first trait above an entry that is not among them.
+    fn missing_above(&self, entry: &Supers) -> Option<Breach>
+        ensures { result ≡ first_some (missing self.now.list.now entry.now.tr) entry.now.list.now }
+    {
+        let found = entry.list.iter().copied().find(|tr| !self.has(*tr));
+        let entry = entry.tr;
+        found.map(|missing| Breach::Missing { entry, missing })
+    }
+
+    // What is wrong between the trait and an entry.
+    fn breach_at(&self, entry: u32) -> Option<Breach>
+        ensures { result ≡ entry_breach (tabled self.now.rows.now) self.now.tr self.now.list.now entry }
+    {
+        let mut memory = [0; 64];
+        let above = Supers::gather(self.rows, entry, &mut memory);
+        if entry != self.tr && above.has(self.tr) {
+            return Some(Breach::Mutual { other: entry });
+        }
+        self.missing_above(&above)
+    }
+
+    // The first breach at an entry, in their order.
+    fn breach_below(&self) -> Option<Breach>
+        ensures { result ≡ first_some (entry_breach (tabled self.now.rows.now) self.now.tr self.now.list.now) self.now.list.now }
+    {
+        self.list.iter().find_map(|entry| self.breach_at(*entry))
+    }
+
+    // The first breach of all.
+    fn breach(&self) -> Option<Breach>
+        ensures { result ≡ breach_of (tabled self.now.rows.now) self.now.tr }
+    {
+        // Not `or_else`: a proof learns nothing there of what its closure answers.
+        match self.beginning() {
+            None => self.breach_below(),
+            found => found,
+        }
+    }
 }
 
 // How the supertrait law breaks at a trait, if it does: the first breach, in the order of its supers.
@@ -94,29 +130,29 @@ pub fn breach_of(rows: &[Row], tr: u32) -> Option<Breach>
     ensures first { result ≡ breach_of (tabled rows.now) tr }
 {
     let mut memory = [0; 64];
-    let mut supers = Roll::new(&mut memory);
-    gather_supers(rows, tr, &mut supers);
-    let found = beginning(tr, &supers);
-    if found.is_some() {
-        return found;
-    }
-    breach_below(rows, tr, &supers)
+    Supers::gather(rows, tr, &mut memory).breach()
 }
 
-// The question that rows of supertraits answer, and the last place at which a lone row can change a trait's supers:
-// without a row at place 0 or 1 they are the trait alone.
-const SUPERS: u32 = 6;
-
+// The last place at which a lone row can change a trait's supers: without a row at place 0 or 1 they are the trait alone.
 const NEXT: u32 = 1;
 
-// Whether the law holds at every trait. Only traits with a row at place 0 or 1 can break it.
+// Whether a row can break the law at the trait that it speaks of.
+fn begins_supers(row: &Row) -> bool
+    ensures { IsTrue result ↔ Begins row.now }
+{
+    row.question() == Some(QuestionKind::Supers) && row.key.a2 <= NEXT
+}
+
+// Whether the law breaks at the trait of a row; passes over rows at which it cannot.
+fn is_broken_at(rows: &[Row], row: &Row) -> bool
+    ensures { MatchBool result (Broken (tabled rows.now) row.now) (Unbroken (tabled rows.now) row.now) }
+{
+    begins_supers(row) && breach_of(rows, row.key.a1).is_some()
+}
+
+// Whether the law holds at every trait.
 pub fn is_lawful(rows: &[Row]) -> bool
     ensures { MatchBool result (SupertraitLaw (tabled rows.now)) ((t : ℕ) × (t < 2 ^ 32) × (SupersLawful (tabled rows.now) t → ⊥)) }
 {
-    for row in rows {
-        if row.question == SUPERS && row.a2 <= NEXT && breach_of(rows, row.a1).is_some() {
-            return false;
-        }
-    }
-    true
+    !rows.iter().any(|row| is_broken_at(rows, row))
 }

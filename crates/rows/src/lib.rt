@@ -9,4 +9,4 @@ mod rows;
 pub use answers::{form_in, item_in, mark_in, marks_in, number_in};
 pub use laws::{Breach, breach_of, is_lawful};
 pub use lists::{Listing, entry};
-pub use rows::{Row, row_for};
+pub use rows::{Key, Row, row_for};

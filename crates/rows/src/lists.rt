@@ -5,12 +5,9 @@ ghost use Rattle.host.specs.Questions.{askable};
 ghost use Rattle.rows.specs.Lists.{at, place_of, itself, Noted, Gathered, all_rows, entries};
 
 use super::rows::{Row, key_of};
-use host::{ContainerKind, Question};
+use host::{ContainerKind, ItemId, MOST_ENTRIES, Question};
 
-// How long a list may be.
-pub(crate) const LONGEST: u32 = 64;
-
-// A list question but for its place.
+// A list question but for its place. It is a value and no closure, since rows are compared with it.
 #[derive(Clone, Copy)]
 pub enum Listing {
     Own { ty: u32 },
@@ -29,11 +26,11 @@ impl Listing {
         match self {
             Listing::Own { ty } => Question::Own { ty, place },
             Listing::Stray { ty } => Question::Stray { ty, place },
-            Listing::Items { kind, container } => Question::Item {
+            Listing::Items { kind, container } => Question::Item(ItemId {
                 kind,
                 container,
                 place,
-            },
+            }),
             Listing::Bounds { ty } => Question::Bound { ty, place },
             Listing::Supers { tr } => Question::Supers { tr, place },
         }
@@ -44,8 +41,8 @@ impl Listing {
         ensures { result ≡ place_of self row.now }
     {
         match self {
-            Listing::Items { .. } => row.a3,
-            _ => row.a2,
+            Listing::Items { .. } => row.key.a3,
+            _ => row.key.a2,
         }
     }
 }
@@ -55,14 +52,7 @@ fn itself(tr: u32) -> Row
     ensures { result ≡ itself tr }
 {
     Row {
-        question: 6,
-        a1: tr,
-        a2: 0,
-        a3: 0,
-        a4: 0,
-        a5: 0,
-        a6: 0,
-        a7: 0,
+        key: key_of(Question::Supers { tr, place: 0 }),
         r1: tr,
         r2: 0,
         r3: 0,
@@ -74,15 +64,9 @@ fn note(slots: &mut [Option<Row>; 64], listing: Listing, row: &Row)
     ensures { Noted listing row.now slots.old slots.new }
 {
     let place = listing.place_of(row);
-    if place >= LONGEST {
-        return;
-    }
-    if !row.answers(key_of(listing.at(place))) {
-        return;
-    }
-    let at = place as usize;
-    if slots[at].is_none() {
-        slots[at] = Some(*row);
+    if place < MOST_ENTRIES && row.key == key_of(listing.at(place)) {
+        // By index: once the borrow from a slice's `get_mut` is over, a proof knows no element.
+        slots[place as usize].get_or_insert(*row);
     }
 }
 
@@ -95,7 +79,7 @@ pub(crate) fn gather(rows: &[Row], listing: Listing) -> [Option<Row>; 64]
     let mut slots = [None; 64];
     for row in rows {
         // Most rows are of other questions: pass over them before anything else is looked at.
-        if row.question == first.question {
+        if row.key.question == first.question {
             note(&mut slots, listing, row);
         }
     }
@@ -109,14 +93,6 @@ pub(crate) fn gather(rows: &[Row], listing: Listing) -> [Option<Row>; 64]
 pub fn entry(rows: &[Row], listing: Listing, place: u32) -> Option<Row>
     ensures { result ≡ slice_get (entries rows.now listing) place }
 {
-    if place >= LONGEST {
-        return None;
-    }
     let slots = gather(rows, listing);
-    for before in 0..place as usize {
-        if slots[before].is_none() {
-            return None;
-        }
-    }
-    slots[place as usize]
+    slots.iter().map_while(|slot| *slot).nth(place as usize)
 }

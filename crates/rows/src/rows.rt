@@ -1,13 +1,14 @@
 // Rows, and the key by which a question finds its row.
 ghost use Rattle.std.specs.Prelude.{◌≡◌, true};
+ghost use Rattle.host.specs.Numbers.{question_number};
 ghost use Rattle.host.specs.Questions.{askable};
-ghost use Rattle.rows.specs.Rows.{key, key_of, fits, first_row, row_for};
+ghost use Rattle.rows.specs.Rows.{Speaks, key, key_of, fits, row_of, first_row, row_for};
 
-use host::{Numbered, Question};
+use host::{Question, QuestionKind};
 
-// A row: a question, its seven arguments, and up to three answers. What the question does not use is 0.
-#[derive(Clone, Copy, PartialEq)]
-pub struct Row {
+// What a question looks for: its number and its seven arguments. What the question does not use is 0.
+#[derive(Clone, Copy, PartialEq, Eq)]
+pub struct Key {
     pub question: u32,
     pub a1: u32,
     pub a2: u32,
@@ -16,30 +17,52 @@ pub struct Row {
     pub a5: u32,
     pub a6: u32,
     pub a7: u32,
+}
+
+// A row: a key, and up to three answers.
+#[derive(Clone, Copy, PartialEq, Eq)]
+pub struct Row {
+    pub key: Key,
     pub r1: u32,
     pub r2: u32,
     pub r3: u32,
 }
 
-// What a question looks for: its number and its seven arguments.
-#[derive(Clone, Copy)]
-pub(crate) struct Key {
-    pub(crate) question: u32,
-    pub(crate) a1: u32,
-    pub(crate) a2: u32,
-    pub(crate) a3: u32,
-    pub(crate) a4: u32,
-    pub(crate) a5: u32,
-    pub(crate) a6: u32,
-    pub(crate) a7: u32,
+impl Row {
+    // The kind of question that it answers; none where no question has its number.
+    pub fn question(&self) -> Option<QuestionKind>
+        ensures { Speaks self.now result }
+    {
+        QuestionKind::try_from(self.key.question).ok()
+    }
+}
+
+// A row is written as eleven numbers: the question's, its seven arguments, and three answers.
+impl From<[u32; 11]> for Row {
+    ghost from_gives = { λ numbers row. row ≡ row_of numbers };
+
+    fn from(numbers: [u32; 11]) -> Row {
+        let [question, a1, a2, a3, a4, a5, a6, a7, r1, r2, r3] = numbers;
+        let key = Key {
+            question,
+            a1,
+            a2,
+            a3,
+            a4,
+            a5,
+            a6,
+            a7,
+        };
+        Row { key, r1, r2, r3 }
+    }
 }
 
 // A key with at most three arguments; the others are not used.
-fn short_key(question: u32, a1: u32, a2: u32, a3: u32) -> Key
-    ensures { result ≡ key question a1 a2 a3 0 0 0 0 }
+fn short_key(kind: QuestionKind, a1: u32, a2: u32, a3: u32) -> Key
+    ensures { result ≡ key (question_number kind) a1 a2 a3 0 0 0 0 }
 {
     Key {
-        question,
+        question: kind.into(),
         a1,
         a2,
         a3,
@@ -56,66 +79,36 @@ pub(crate) fn key_of(question: Question) -> Key
     ensures asked { askable question ≡ true }
 {
     match question {
-        Question::Form { ty } => short_key(1, ty, 0, 0),
-        Question::Own { ty, place } => short_key(2, ty, place, 0),
-        Question::Stray { ty, place } => short_key(3, ty, place, 0),
-        Question::Item {
-            kind,
-            container,
-            place,
-        } => short_key(4, kind.number(), container, place),
-        Question::Bound { ty, place } => short_key(5, ty, place, 0),
-        Question::Supers { tr, place } => short_key(6, tr, place, 0),
-        Question::Visible {
-            kind,
-            container,
-            place,
-        } => short_key(7, kind.number(), container, place),
-        Question::Skips { tr } => short_key(8, tr, 0, 0),
-        Question::Applies {
-            class,
-            container,
-            place,
-            origin,
-            ty,
-            wrap,
-            mode,
-        } => Key {
-            question: 9,
-            a1: class.number(),
-            a2: container,
-            a3: place,
-            a4: origin,
-            a5: ty,
-            a6: wrap.number(),
-            a7: mode.number(),
+        Question::Form { ty } => short_key(QuestionKind::Form, ty, 0, 0),
+        Question::Own { ty, place } => short_key(QuestionKind::Own, ty, place, 0),
+        Question::Stray { ty, place } => short_key(QuestionKind::Stray, ty, place, 0),
+        Question::Item(at) => {
+            short_key(QuestionKind::Item, at.kind.into(), at.container, at.place)
+        }
+        Question::Bound { ty, place } => short_key(QuestionKind::Bound, ty, place, 0),
+        Question::Supers { tr, place } => short_key(QuestionKind::Supers, tr, place, 0),
+        Question::Visible(item) => short_key(
+            QuestionKind::Visible,
+            item.kind.into(),
+            item.container,
+            item.place,
+        ),
+        Question::Skips { tr } => short_key(QuestionKind::Skips, tr, 0, 0),
+        Question::Applies(trial) => Key {
+            question: QuestionKind::Applies.into(),
+            a1: trial.class.into(),
+            a2: trial.container,
+            a3: trial.place,
+            a4: trial.origin,
+            a5: trial.ty,
+            a6: trial.wrap.into(),
+            a7: trial.mode.into(),
         },
-        Question::Source {
-            tr,
-            place,
-            ty,
-            wrap,
-            mode,
-        } => Key {
-            a4: wrap.number(),
-            a5: mode.number(),
-            ..short_key(10, tr, place, ty)
+        Question::Source(item) => Key {
+            a4: item.wrap.into(),
+            a5: item.mode.into(),
+            ..short_key(QuestionKind::Source, item.tr, item.place, item.ty)
         },
-    }
-}
-
-impl Row {
-    pub(crate) fn answers(&self, key: Key) -> bool
-        ensures { result ≡ fits self.now key }
-    {
-        self.question == key.question
-            && self.a1 == key.a1
-            && self.a2 == key.a2
-            && self.a3 == key.a3
-            && self.a4 == key.a4
-            && self.a5 == key.a5
-            && self.a6 == key.a6
-            && self.a7 == key.a7
     }
 }
 
@@ -123,12 +116,7 @@ impl Row {
 pub(crate) fn first_row(rows: &[Row], key: Key) -> Option<Row>
     ensures { result ≡ first_row rows.now key }
 {
-    for row in rows {
-        if row.answers(key) {
-            return Some(*row);
-        }
-    }
-    None
+    rows.iter().copied().find(|row| row.key == key)
 }
 
 // The row that answers a question.

@@ -1,34 +1,58 @@
 // Playing a script: each line is read, carried out and answered.
 use super::printing::{Joined, Shown};
-use registry::{Registry, Reply};
-use script::parse;
+use registry::{Registry, Reply, Trouble};
+use script::{Fault, parse};
 use std::alloc::{AllocError, Global};
-use std::io;
 use std::io::{BufRead, Lines};
+use std::{fmt, io};
+
+// Why a line was not carried out: it is no command, or its command failed.
+#[derive(Clone, Copy)]
+enum LineError {
+    Fault(Fault),
+    Trouble(Trouble),
+}
+
+impl From<Fault> for LineError {
+    fn from(fault: Fault) -> LineError {
+        LineError::Fault(fault)
+    }
+}
+
+impl From<Trouble> for LineError {
+    fn from(trouble: Trouble) -> LineError {
+        LineError::Trouble(trouble)
+    }
+}
+
+impl fmt::Display for LineError {
+    fn fmt<W: fmt::Write>(&self, f: &mut fmt::Formatter<W>) -> fmt::Result {
+        match self {
+            LineError::Fault(fault) => write!(f, "{fault}"),
+            LineError::Trouble(trouble) => write!(f, "{trouble}"),
+        }
+    }
+}
 
 // The words of a line, up to a comment.
 fn words_of(heap: Global, line: &str) -> Result<Vec<&str>, AllocError> {
-    let said = match line.split_once('#') {
-        Some((said, _)) => said,
-        None => line,
-    };
+    let said = line.split_once('#').map_or(line, |(said, _)| said);
     said.split_whitespace().collect(heap)
 }
 
+fn carry_out(registry: &mut Registry, words: &[&str]) -> Result<Reply, LineError> {
+    let command = parse(words)?;
+    Ok(registry.execute(command)?)
+}
+
+// The line, and what it was answered; nothing where the answer is silence.
 fn print_reply<'a>(rt: &HostRuntime, words: &'a [&'a str], reply: Reply) -> io::Result<()> {
-    let line = Joined(words);
-    match reply {
-        Reply::Silent => Ok(()),
-        Reply::Opened(Ok(())) => println!(rt; "{line} = 0"),
-        Reply::Opened(Err(refusal)) => {
-            let number = refusal.number();
-            println!(rt; "{line} = refused {number}")
-        }
-        Reply::Answered(answer) => {
-            let shown = Shown(answer);
-            println!(rt; "{line} = {shown}")
-        }
+    if let Reply::Silent = reply {
+        return Ok(());
     }
+    let line = Joined(words);
+    let shown = Shown(reply);
+    println!(rt; "{line} = {shown}")
 }
 
 // Carries one line out, and says whether it could be read.
@@ -38,21 +62,14 @@ fn play_line(
     line: &str,
     number: usize,
 ) -> anyhow::Result<bool> {
-    let heap = rt.alloc();
-    let words = words_of(heap, line)?;
-    match parse(words.as_slice()) {
-        Ok(command) => match registry.execute(heap, command) {
-            Ok(reply) => {
-                print_reply(rt, words.as_slice(), reply)?;
-                Ok(true)
-            }
-            Err(trouble) => {
-                println!(rt; "error at line {number}: {trouble}")?;
-                Ok(false)
-            }
-        },
-        Err(fault) => {
-            println!(rt; "error at line {number}: {fault}")?;
+    let words = words_of(rt.alloc(), line)?;
+    match carry_out(registry, &words) {
+        Ok(reply) => {
+            print_reply(rt, &words, reply)?;
+            Ok(true)
+        }
+        Err(error) => {
+            println!(rt; "error at line {number}: {error}")?;
             Ok(false)
         }
     }
@@ -62,10 +79,8 @@ fn play_line(
 pub fn play<R: BufRead + Drop>(rt: &HostRuntime, lines: Lines<R>) -> anyhow::Result<usize> {
     let mut registry = Registry::new(rt.alloc());
     let mut bad = 0usize;
-    let mut number = 0usize;
-    for line in lines {
+    for (number, line) in (1usize..).zip(lines) {
         let line = line?;
-        number = number.saturating_add(1);
         if !play_line(rt, &mut registry, line.as_str(), number)? {
             bad = bad.saturating_add(1);
         }

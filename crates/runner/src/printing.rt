@@ -1,8 +1,9 @@
 // How answers are written.
-use host::{Answer, Numbered};
+use host::Answer;
+use registry::Reply;
 use std::fmt;
 
-// Words, joined by one blank.
+// Words, joined by one blank; not by the library's `join`, which needs memory.
 #[derive(Drop)]
 pub(crate) struct Joined<'a>(pub(crate) &'a [&'a str]);
 
@@ -34,22 +35,43 @@ impl fmt::Display for Numbers<'_> {
     }
 }
 
-// An answer: its numbers, separated by blanks, marks as 0 and 1.
+// What a command was answered: the number 0 or a refusal's for an opening; for a question its answer's numbers, separated by
+// blanks, marks as 0 and 1.
 #[derive(Drop)]
-pub(crate) struct Shown(pub(crate) Answer);
+pub(crate) struct Shown(pub(crate) Reply);
 
 impl fmt::Display for Shown {
     fn fmt<W: fmt::Write>(&self, f: &mut fmt::Formatter<W>) -> fmt::Result {
         match self.0 {
+            Reply::Silent => Ok(()),
+            Reply::Opened(Ok(())) => write!(f, "0"),
+            Reply::Opened(Err(refusal)) => {
+                let number = u32::from(refusal);
+                write!(f, "refused {number}")
+            }
+            Reply::Answered(answer) => {
+                let answer = Answered(answer);
+                write!(f, "{answer}")
+            }
+        }
+    }
+}
+
+#[derive(Drop)]
+struct Answered(Answer);
+
+impl fmt::Display for Answered {
+    fn fmt<W: fmt::Write>(&self, f: &mut fmt::Formatter<W>) -> fmt::Result {
+        match self.0 {
             Answer::Form(form) => {
-                let number = form.form.number();
+                let number = u32::from(form.form);
                 let definition = form.definition;
                 let boxed = u8::from(form.boxed_slice);
                 write!(f, "{number} {definition} {boxed}")
             }
             Answer::Item(Some(item)) => {
                 let name = item.name;
-                let sort = item.sort.number();
+                let sort = u32::from(item.sort);
                 let has_self = u8::from(item.has_self);
                 write!(f, "{name} {sort} {has_self}")
             }

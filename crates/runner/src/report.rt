@@ -74,100 +74,93 @@ impl fmt::Display for Place {
     }
 }
 
-fn print_breach(rt: &HostRuntime, tr: u32, breach: Breach) -> io::Result<()> {
-    match breach {
-        Breach::NotItself { first } => {
-            println!(rt; "  trait {tr}: its supers begin with trait {first}")
+// Items, separated by commas, each with a blank in front.
+#[derive(Drop)]
+struct Places<'a>(&'a [ItemId]);
+
+impl fmt::Display for Places<'_> {
+    fn fmt<W: fmt::Write>(&self, f: &mut fmt::Formatter<W>) -> fmt::Result {
+        for (before, item) in self.0.iter().enumerate() {
+            if before > 0 {
+                write!(f, ",")?;
+            }
+            let place = Place(*item);
+            write!(f, " {place}")?;
         }
-        Breach::Missing { entry, missing } => println!(rt;
-            "  trait {tr}: its supers have trait {entry} and lack trait {missing}, which is above that"
-        ),
-        Breach::Mutual { other } => {
-            println!(rt; "  trait {tr}: it and trait {other} stand above each other")
-        }
+        Ok(())
     }
 }
 
 // Prints where the supertrait law breaks, and answers at how many traits.
 fn print_breaches(rt: &HostRuntime, rows: &[Row], traits: &[u32]) -> io::Result<usize> {
     let mut broken = 0usize;
-    for tr in traits {
-        if let Some(breach) = breach_of(rows, *tr) {
-            print_breach(rt, *tr, breach)?;
+    for &tr in traits {
+        if let Some(breach) = breach_of(rows, tr) {
+            println!(rt; "  trait {tr}: {breach}")?;
             broken = broken.saturating_add(1);
         }
     }
     Ok(broken)
 }
 
-fn print_types<'a>(
-    rt: &HostRuntime,
-    host: &TabledHost,
-    types: &[u32],
-    labels: &'a [&'a str],
-) -> anyhow::Result<()> {
-    let heap = rt.alloc();
-    for ty in types {
-        let ty = *ty;
-        let label = Labelled { number: ty, labels };
-        let form = Kind(host.form(ty));
-        let own = entries(heap, host, NumberList::Own { ty })?;
-        let stray = entries(heap, host, NumberList::Stray { ty })?;
-        let bounds = entries(heap, host, NumberList::Bounds { ty })?;
-        let own = Numbers(own.as_slice());
-        let stray = Numbers(stray.as_slice());
-        let bounds = Numbers(bounds.as_slice());
-        println!(rt; "  type {label}: {form}, own impls{own}, stray impls{stray}, bounds{bounds}")?;
-    }
-    Ok(())
+// An opened table, and the labels under which it is listed.
+#[derive(Drop)]
+struct Inventory<'a> {
+    rt: &'a HostRuntime,
+    host: &'a TabledHost,
+    rows: &'a [Row],
+    labels: Labels<'a>,
 }
 
-fn print_traits<'a>(
-    rt: &HostRuntime,
-    host: &TabledHost,
-    traits: &[u32],
-    labels: &'a [&'a str],
-) -> anyhow::Result<()> {
-    for tr in traits {
-        let tr = *tr;
-        let label = Labelled { number: tr, labels };
-        let supers = entries(rt.alloc(), host, NumberList::Supers { tr })?;
-        let supers = Numbers(supers.as_slice());
-        println!(rt; "  trait {label}: supers{supers}")?;
+impl Inventory<'_> {
+    fn print_types(&self, types: &[u32]) -> anyhow::Result<()> {
+        let heap = self.rt.alloc();
+        for &ty in types {
+            let label = Labelled {
+                number: ty,
+                labels: self.labels.types,
+            };
+            let form = Kind(self.host.form(ty));
+            let own = entries(heap, self.host, NumberList::Own { ty })?;
+            let stray = entries(heap, self.host, NumberList::Stray { ty })?;
+            let bounds = entries(heap, self.host, NumberList::Bounds { ty })?;
+            let own = Numbers(&own);
+            let stray = Numbers(&stray);
+            let bounds = Numbers(&bounds);
+            println!(self.rt;
+                "  type {label}: {form}, own impls{own}, stray impls{stray}, bounds{bounds}"
+            )?;
+        }
+        Ok(())
     }
-    Ok(())
-}
 
-// The items behind a name, one behind another.
-fn print_items(rt: &HostRuntime, items: &[ItemId]) -> io::Result<()> {
-    let mut mark = "";
-    for item in items {
-        let place = Place(*item);
-        print!(rt; "{mark} {place}")?;
-        mark = ",";
+    fn print_traits(&self, traits: &[u32]) -> anyhow::Result<()> {
+        for &tr in traits {
+            let label = Labelled {
+                number: tr,
+                labels: self.labels.traits,
+            };
+            let supers = entries(self.rt.alloc(), self.host, NumberList::Supers { tr })?;
+            let supers = Numbers(&supers);
+            println!(self.rt; "  trait {label}: supers{supers}")?;
+        }
+        Ok(())
     }
-    println!(rt; "")
-}
 
-fn print_names<'a>(
-    rt: &HostRuntime,
-    host: &TabledHost,
-    rows: &[Row],
-    names: &[u32],
-    labels: &'a [&'a str],
-) -> anyhow::Result<()> {
-    let heap = rt.alloc();
-    let all = containers(heap, rows)?;
-    for name in names {
-        let label = Labelled {
-            number: *name,
-            labels,
-        };
-        let items = carriers(heap, host, all.as_slice(), *name)?;
-        print!(rt; "  name {label}:")?;
-        print_items(rt, items.as_slice())?;
+    fn print_names(&self, names: &[u32]) -> anyhow::Result<()> {
+        let heap = self.rt.alloc();
+        let all = containers(heap, self.rows)?;
+        for &name in names {
+            let label = Labelled {
+                number: name,
+                labels: self.labels.names,
+            };
+            let items = carriers(heap, self.host, &all, name)?;
+            let places = Places(&items);
+            println!(self.rt; "  name {label}:{places}")?;
+        }
+        Ok(())
     }
-    Ok(())
 }
 
 // Opens a table and prints its inventory, or says where the supertrait law breaks; answers whether it can be used.
@@ -179,11 +172,11 @@ pub fn vet(rt: &HostRuntime, rows: &[Row], labels: Labels<'_>) -> anyhow::Result
     let traits = subjects(heap, rows, Subject::Trait)?;
     let names = subjects(heap, rows, Subject::Name)?;
     let count = rows.len();
-    match TabledHost::open(rows.to_vec(heap)?) {
+    match TabledHost::open(Vec::from_slice(heap, rows)?) {
         Err(refusal) => {
-            let number = refusal.number();
+            let number = u32::from(refusal);
             println!(rt; "refused {number}: the supertrait law is broken")?;
-            let broken = print_breaches(rt, rows, traits.as_slice())?;
+            let broken = print_breaches(rt, rows, &traits)?;
             println!(rt;
                 "checked {count} rows: {broken} traits break the law, and the table is not used"
             )?;
@@ -191,9 +184,15 @@ pub fn vet(rt: &HostRuntime, rows: &[Row], labels: Labels<'_>) -> anyhow::Result
         }
         Ok(host) => {
             println!(rt; "opened")?;
-            print_types(rt, &host, types.as_slice(), labels.types)?;
-            print_traits(rt, &host, traits.as_slice(), labels.traits)?;
-            print_names(rt, &host, rows, names.as_slice(), labels.names)?;
+            let inventory = Inventory {
+                rt,
+                host: &host,
+                rows,
+                labels,
+            };
+            inventory.print_types(&types)?;
+            inventory.print_traits(&traits)?;
+            inventory.print_names(&names)?;
             let (types, traits, names) = (types.len(), traits.len(), names.len());
             println!(rt;
                 "checked {count} rows: {types} types, {traits} traits, {names} names; the supertrait law holds at every trait"

@@ -6,11 +6,11 @@ use Rattle.std.proofs.lemmas.Bool.{cases_eq}
 use Rattle.host.specs.Meaning.{◌∈◌}
 use Rattle.host.specs.declared.refusals.Refusal.{Refusal}
 use Rattle.host.specs.declared.refusals.Refusal.TheVariants.{TooManyClaims}
-use Rattle.scope.specs.Entries.{traits_of, claims_on, Claimed}
+use Rattle.scope.specs.Entries.{traits_of, claims_on, Claimed, Valid}
 use Rattle.scope.specs.Lists.{Distinct, without}
 use Rattle.scope.specs.Scopes.{Answer, OthersStay, Raised, Lowered, Full, Admits, Releases}
 use Rattle.scope.specs.declared.entries.Entry.{Entry}
-use Rattle.scope.proofs.Lists.{distinct_push, distinct_kept_by, in_push, in_kept_by, in_without}
+use Rattle.scope.proofs.Lists.{distinct_push, distinct_filter, in_push, in_filter, in_without}
 use Rattle.scope.proofs.Claims.{trait_at, claims_at, claims_absent, listed_or_none, in_at, claims_on_at, traits_set, claims_set_other, claims_set_same, claims_push_same, claims_push_other, traits_removed, claims_removed_other}
 
 -- what Claimed says of a listed trait's claims
@@ -93,37 +93,39 @@ module _ (es : List Entry) (d : Distinct (traits_of es)) (k : Claimed es) where
         (λ (n : u ≡ t → ⊥). subst Count (sym (others u n)) (k u (old u n m)))
         (cases_eq u t)
 
-    raised_keeps : claims_on es t < 65535 → Raised es t fs → Distinct (traits_of fs) × Claimed fs
+    raised_keeps : claims_on es t < 65535 → Raised es t fs → Valid fs
     raised_keeps few r = ⊎_elim new old (cases_zero (claims_on es t))
       where
         own : t ∈ traits_of fs → Count (claims_on fs t)
         own _ = (omega (arith, r.more), omega (arith, r.more))
 
-        new : claims_on es t ≡ 0 → Distinct (traits_of fs) × Claimed fs
+        new : claims_on es t ≡ 0 → Valid fs
         new z =
-            let ts = r.arrives z in (
-              subst Distinct (sym ts) (distinct_push (traits_of es) t d (λ m. omega (arith, (k t m).0))),
-              keeps_claimed r.others (λ u n m. ⊎_elim (λ (h : u ∈ traits_of es). h) (λ (q : u ≡ t). absurd (n q)) (in_push (traits_of es) u t (subst (λ l. u ∈ l) ts m))) own,
-            )
+            let ts = r.arrives z in
+            record {
+              distinct = subst Distinct (sym ts) (distinct_push (traits_of es) t d (λ m. omega (arith, (k t m).0)));
+              claimed = keeps_claimed r.others (λ u n m. ⊎_elim (λ (h : u ∈ traits_of es). h) (λ (q : u ≡ t). absurd (n q)) (in_push (traits_of es) u t (subst (λ l. u ∈ l) ts m))) own;
+            }
 
-        old : 0 < claims_on es t → Distinct (traits_of fs) × Claimed fs
-        old h = let ts = r.stays h in (subst Distinct (sym ts) d, keeps_claimed r.others (λ u n m. subst (λ l. u ∈ l) ts m) own)
+        old : 0 < claims_on es t → Valid fs
+        old h = let ts = r.stays h in record { distinct = subst Distinct (sym ts) d; claimed = keeps_claimed r.others (λ u n m. subst (λ l. u ∈ l) ts m) own }
 
-    lowered_keeps : Lowered es t fs → Distinct (traits_of fs) × Claimed fs
+    lowered_keeps : Lowered es t fs → Valid fs
     lowered_keeps r = ⊎_elim last old (cases_last es t fs r)
       where
-        last : claims_on es t ≡ 1 → Distinct (traits_of fs) × Claimed fs
+        last : claims_on es t ≡ 1 → Valid fs
         last o =
-            let ts = r.leaves o in (
-              subst Distinct (sym ts) (distinct_kept_by _ (traits_of es) d),
-              keeps_claimed r.others (λ u n m. in_kept_by _ (traits_of es) u (subst (λ l. u ∈ l) ts m)) (λ m. absurd (in_without t (traits_of es) (subst (λ l. t ∈ l) ts m))),
-            )
+            let ts = r.leaves o in
+            record {
+              distinct = subst Distinct (sym ts) (distinct_filter _ (traits_of es) d);
+              claimed = keeps_claimed r.others (λ u n m. (in_filter _ (traits_of es) u (subst (λ l. u ∈ l) ts m)).0) (λ m. absurd (in_without t (traits_of es) (subst (λ l. t ∈ l) ts m)));
+            }
 
-        old : 1 < claims_on es t → Distinct (traits_of fs) × Claimed fs
+        old : 1 < claims_on es t → Valid fs
         old h =
             let ts = r.stays h in
             let own : t ∈ traits_of fs → Count (claims_on fs t) = λ m. let was = (k t (subst (λ l. t ∈ l) ts m)).1 in (omega (arith, r.fewer), omega (arith, r.fewer)) in
-            (subst Distinct (sym ts) d, keeps_claimed r.others (λ u n m. subst (λ l. u ∈ l) ts m) own)
+            record { distinct = subst Distinct (sym ts) d; claimed = keeps_claimed r.others (λ u n m. subst (λ l. u ∈ l) ts m) own }
 
     -- a granted claim is not the 65536th
     fewer_out : ((e : Refusal) → Full es t e → ⊥) → claims_on es t < 65535
@@ -133,10 +135,10 @@ module _ (es : List Entry) (d : Distinct (traits_of es)) (k : Claimed es) where
         below m = let apart : claims_on es t ≡ 65535 → ⊥ = λ e. free TooManyClaims (inr (refl, e)) in omega (arith, (k t m).1, apart)
 
 -- What each call keeps: distinct traits, each with a claim out.
-pub admits_keeps : (es : List Entry) (t : ℕ) (r : Answer) (fs : List Entry) → Distinct (traits_of es) → Claimed es → Admits es t r fs → Distinct (traits_of fs) × Claimed fs
-admits_keeps es t (Ok _) fs d k a = raised_keeps es d k t fs (fewer_out es d k t fs a.0) a.1
-admits_keeps es t (Err e) fs d k a = subst (λ l. Distinct (traits_of l) × Claimed l) (sym a.1) (d, k)
+pub admits_keeps : (es : List Entry) (t : ℕ) (r : Answer) (fs : List Entry) → Valid es → Admits es t r fs → Valid fs
+admits_keeps es t (Ok _) fs v a = raised_keeps es v.distinct v.claimed t fs (fewer_out es v.distinct v.claimed t fs a.0) a.1
+admits_keeps es t (Err e) fs v a = subst Valid (sym a.1) v
 
-pub releases_keeps : (es : List Entry) (t : ℕ) (r : Answer) (fs : List Entry) → Distinct (traits_of es) → Claimed es → Releases es t r fs → Distinct (traits_of fs) × Claimed fs
-releases_keeps es t (Ok _) fs d k a = lowered_keeps es d k t fs a
-releases_keeps es t (Err e) fs d k a = subst (λ l. Distinct (traits_of l) × Claimed l) (sym a.2) (d, k)
+pub releases_keeps : (es : List Entry) (t : ℕ) (r : Answer) (fs : List Entry) → Valid es → Releases es t r fs → Valid fs
+releases_keeps es t (Ok _) fs v a = lowered_keeps es v.distinct v.claimed t fs a
+releases_keeps es t (Err e) fs v a = subst Valid (sym a.2) v

@@ -1,14 +1,18 @@
 -- The traits and the claims in a list of entries, and what a change of one entry makes of them.
-use Rattle.std.proofs.Common.{◌≡◌, ℕ, zero, suc, ◌+◌, ◌<◌, ◌≤◌, cond, not, eqb, ◌⊎◌, List, [], ◌∷◌, ◌++◌, length, get_or, take, set, sym, refl, ap, ◌∙◌, subst, inl, inr, ⊎_elim, arith}
-use Rattle.std.specs.List.{remove}
-use Rattle.std.proofs.lemmas.List.{get_or-set_same, length-set, map_more, take_all}
-use Rattle.std.proofs.lemmas.Bool.{cases_eq, cond-true, cond-false, eq-eqb, ne_eqb}
+use Rattle.std.proofs.Common.{◌≡◌, ℕ, zero, suc, ◌+◌, ◌<◌, Bool, not, eqb, ◌⊎◌, List, [], ◌∷◌, ◌++◌, length, Some, None, Option, get_or, set, sym, refl, ap, ◌∙◌, subst, inl, inr, ⊎_elim, arith}
+use Rattle.std.specs.List.{remove, find, position, position_or_len}
+use Rattle.std.specs.Option.{option_map, unwrap_or}
+use Rattle.std.proofs.lemmas.List.{get_or-set_same, length-set}
+use Rattle.std.proofs.lemmas.List.Folds.{find_past}
+use Rattle.std.proofs.lemmas.List.Recursion.{found_push_other}
+use Rattle.std.proofs.lemmas.List.Quantifiers.{position-Some}
+use Rattle.std.proofs.lemmas.Bool.{cases_eq, cond-true, cond-false, eq-eqb, eqb-true, lt-ltb, ne_eqb}
 use Rattle.host.specs.Meaning.{◌∈◌}
 use Rattle.scope.specs.Entries.{traits_of, claims_on}
 use Rattle.scope.specs.Lists.{Distinct, without}
-use Rattle.scope.specs.Places.{no_entry}
+use Rattle.scope.specs.Places.{no_entry, PlaceOf}
 use Rattle.scope.specs.declared.entries.Entry.{Entry}
-use Rattle.scope.proofs.Lists.{in_push, without_absent}
+use Rattle.scope.proofs.Lists.{without_absent}
 
 abbrev pub trait_at : List Entry → ℕ → ℕ
 trait_at es i = (get_or es i no_entry).tr
@@ -16,12 +20,28 @@ trait_at es i = (get_or es i no_entry).tr
 abbrev pub claims_at : List Entry → ℕ → ℕ
 claims_at es i = (get_or es i no_entry).claims
 
+-- whether the entry is of the trait t
+abbrev pub is_of : ℕ → Entry → Bool
+is_of t e = eqb e.tr t
+
+-- the claims of what a search found
+abbrev claims_of : Option Entry → ℕ
+claims_of found = unwrap_or (option_map (λ (e : Entry). e.claims) found) 0
+
 -- the claims on the first entry's trait, and on another
 pub claims_here : (e : Entry) (es : List Entry) (t : ℕ) → e.tr ≡ t → claims_on (e ∷ es) t ≡ e.claims
-claims_here e es t is = cond-true _ _ _ (eq-eqb _ _ is)
+claims_here e es t is = ap claims_of (cond-true _ _ _ (eq-eqb _ _ is))
 
 pub claims_past : (e : Entry) (es : List Entry) (t : ℕ) → (e.tr ≡ t → ⊥) → claims_on (e ∷ es) t ≡ claims_on es t
-claims_past e es t apart = cond-false _ _ _ (ne_eqb _ _ apart)
+claims_past e es t apart = ap claims_of (cond-false _ _ _ (ne_eqb _ _ apart))
+
+-- behind the same first entry
+claims_later : (e : Entry) (es fs : List Entry) (t : ℕ) → claims_on es t ≡ claims_on fs t → claims_on (e ∷ es) t ≡ claims_on (e ∷ fs) t
+claims_later e es fs t same =
+    ⊎_elim
+    (λ (q : e.tr ≡ t). claims_here e es t q ∙ sym (claims_here e fs t q))
+    (λ (n : e.tr ≡ t → ⊥). claims_past e es t n ∙ same ∙ sym (claims_past e fs t n))
+    (cases_eq e.tr t)
 
 pub claims_absent : (es : List Entry) (t : ℕ) → (t ∈ traits_of es → ⊥) → claims_on es t ≡ 0
 claims_absent [] t n = refl
@@ -60,10 +80,8 @@ traits_set (e ∷ es) zero x is = ap (λ t. t ∷ traits_of es) (sym is)
 traits_set (e ∷ es) (suc i) x is = ap (λ ts. e.tr ∷ ts) (traits_set es i x is)
 
 pub claims_set_other : (es : List Entry) (i : ℕ) (x : Entry) (u : ℕ) → trait_at es i ≡ x.tr → (u ≡ x.tr → ⊥) → claims_on (set es i x) u ≡ claims_on es u
-claims_set_other [] i x u is n = refl
-claims_set_other (e ∷ es) zero x u is n =
-    claims_past x es u (λ q. n (sym q)) ∙ sym (claims_past e es u (λ q. n (sym q ∙ is)))
-claims_set_other (e ∷ es) (suc i) x u is n = ap (λ k. cond (eqb e.tr u) e.claims k) (claims_set_other es i x u is n)
+claims_set_other es i x u is n =
+    ap claims_of (find_past (is_of u) es i x no_entry (ne_eqb _ _ (λ q. n (sym q ∙ is))) (ne_eqb _ _ (λ q. n (sym q))))
 
 pub claims_set_same : (es : List Entry) (i : ℕ) (x : Entry) → Distinct (traits_of es) → i < length es → trait_at es i ≡ x.tr → claims_on (set es i x) x.tr ≡ x.claims
 claims_set_same es i x d l is =
@@ -79,8 +97,8 @@ claims_push_same [] x n = claims_here x [] x.tr refl
 claims_push_same (e ∷ es) x n = claims_past e _ x.tr (λ q. n (inl (sym q))) ∙ claims_push_same es x (λ m. n (inr m))
 
 pub claims_push_other : (es : List Entry) (x : Entry) (u : ℕ) → (u ≡ x.tr → ⊥) → claims_on (es ++ (x ∷ [])) u ≡ claims_on es u
-claims_push_other [] x u n = claims_past x [] u (λ q. n (sym q))
-claims_push_other (e ∷ es) x u n = ap (λ k. cond (eqb e.tr u) e.claims k) (claims_push_other es x u n)
+claims_push_other es x u n =
+    ap claims_of (found_push_other (find (is_of u)) (is_of u) Some None refl (λ _ _. refl) es x (ne_eqb _ _ (λ q. n (sym q))))
 
 -- one entry less
 pub traits_removed : (es : List Entry) (i : ℕ) → Distinct (traits_of es) → i < length es → traits_of (remove es i) ≡ without (trait_at es i) (traits_of es)
@@ -96,7 +114,7 @@ pub claims_removed_other : (es : List Entry) (i u : ℕ) → (u ≡ trait_at es 
 claims_removed_other [] zero u n = refl
 claims_removed_other [] (suc i) u n = refl
 claims_removed_other (e ∷ es) zero u n = sym (claims_past e es u (λ q. n (sym q)))
-claims_removed_other (e ∷ es) (suc i) u n = ap (λ k. cond (eqb e.tr u) e.claims k) (claims_removed_other es i u n)
+claims_removed_other (e ∷ es) (suc i) u n = claims_later e _ _ u (claims_removed_other es i u n)
 
 -- entries with the same traits and the same claims are the same entries
 same_entry : (e f : Entry) → e.tr ≡ f.tr → e.claims ≡ f.claims → e ≡ f
@@ -104,8 +122,8 @@ same_entry e f p q = λ i. record { tr = p i; claims = q i }
 
 pub same_entries : (es fs : List Entry) → Distinct (traits_of es) → traits_of es ≡ traits_of fs → ((u : ℕ) → claims_on es u ≡ claims_on fs u) → es ≡ fs
 same_entries [] [] d ts cs = refl
-same_entries [] (f ∷ fs) d ts cs = let z : ◌≡◌ {A = ℕ} 0 1 = cc in absurd (omega arith)
-same_entries (e ∷ es) [] d ts cs = let z : ◌≡◌ {A = ℕ} 0 1 = cc in absurd (omega arith)
+same_entries [] (f ∷ fs) d ts cs = cc
+same_entries (e ∷ es) [] d ts cs = cc
 same_entries (e ∷ es) (f ∷ fs) d ts cs =
     let tr : e.tr ≡ f.tr = cc in
     let rest : traits_of es ≡ traits_of fs = cc in
@@ -119,10 +137,26 @@ same_entries (e ∷ es) (f ∷ fs) d ts cs =
     (cases_eq e.tr u) in
     ap (λ x. x ∷ es) (same_entry e f tr claims) ∙ ap (λ l. f ∷ l) (same_entries es fs d.1 rest counts)
 
--- a search, one place on and at its end
-pub absent_more : (es : List Entry) (i t : ℕ) → i < length es → (t ∈ traits_of (take i es) → ⊥) → (trait_at es i ≡ t → ⊥) → t ∈ traits_of (take (i + 1) es) → ⊥
-absent_more es i t l so_far here m =
-    ⊎_elim so_far (λ (q : t ≡ trait_at es i). here (sym q)) (in_push (traits_of (take i es)) t (trait_at es i) (subst (λ ts. t ∈ ts) (map_more (λ (e : Entry). e.tr) es i no_entry l) m))
+abbrev place : List Entry → ℕ → ℕ
+place es t = position_or_len (is_of t) es
 
-pub absent_all : (es : List Entry) (i t : ℕ) → length es ≤ i → (t ∈ traits_of (take i es) → ⊥) → t ∈ traits_of es → ⊥
-absent_all es i t l so_far m = so_far (subst (λ xs. t ∈ traits_of xs) (sym (take_all i es l)) m)
+-- a search for a trait ends at its entry, or past all where it has none
+listed_within : (es : List Entry) (t : ℕ) → t ∈ traits_of es → place es t < length es
+listed_within [] t m = absurd m
+listed_within (e ∷ es) t m = step (cases_eq e.tr t) m (listed_within es t)
+  where
+    step : (e.tr ≡ t) ⊎ (e.tr ≡ t → ⊥) → t ∈ traits_of (e ∷ es) → (t ∈ traits_of es → place es t < length es) → place (e ∷ es) t < length (e ∷ es)
+    step (inl q) m rest = let first = cond-false _ (1 + place es t) 0 (ap not (eq-eqb e.tr t q)) in omega arith
+    step (inr n) (inl q) rest = absurd (n (sym q))
+    step (inr n) (inr later) rest =
+        let next = cond-true _ (1 + place es t) 0 (ap not (ne_eqb e.tr t n)) in
+        let within = rest later in
+        omega arith
+
+pub place_from_position : (es : List Entry) (t : ℕ) (r : Option ℕ) → r ≡ position (is_of t) es → PlaceOf es t r
+place_from_position es t (Some i) is =
+    let at = position-Some (is_of t) es i no_entry (sym is) in
+    (at.0, eqb-true _ _ at.1)
+place_from_position es t None is = λ m.
+    let found = cond-true _ (Some (place es t)) None (lt-ltb _ _ (listed_within es t m)) in
+    cc

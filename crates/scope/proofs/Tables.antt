@@ -1,134 +1,106 @@
--- What a write to the table of a scope makes of what is held.
-use Rattle.std.proofs.Common.{◌≡◌, ℕ, zero, suc, ◌+◌, ◌-◌, ◌<◌, ◌≤◌, List, [], ◌∷◌, length, get_or, take, set, Ok, Err, sym, refl, ap, ◌∙◌, subst, inl, inr, ⊎_elim, arith}
-use Rattle.std.specs.List.{remove}
-use Rattle.std.proofs.lemmas.List.Edits.{length-remove, get_or-remove_below, get_or-remove_above}
-use Rattle.std.proofs.lemmas.List.{get_or-take, length-take-le, same_lists, take_more_set}
-use Rattle.std.proofs.lemmas.Bool.{cases_lt}
+-- What a write to the table of a scope makes of the entries in it.
+use Rattle.std.proofs.Common.{◌≡◌, ℕ, ◌+◌, ◌-◌, ◌<◌, ◌≤◌, List, [], ◌∷◌, ◌++◌, length, take, drop, set, Ok, Err, sym, refl, ap, ◌∙◌, subst, inl, inr, arith, add-one, length-drop}
+use Rattle.std.specs.List.{remove, copy_within}
+use Rattle.std.proofs.Math.Seq.{take-set-lt}
+use Rattle.std.proofs.lemmas.List.Edits.{take-paste}
+use Rattle.std.proofs.lemmas.List.{drop-take, get_or-take, length-take-le, take-take, take_more_set}
 use Rattle.host.specs.Meaning.{◌∈◌}
 use Rattle.host.specs.declared.refusals.Refusal.{Refusal}
 use Rattle.host.specs.declared.refusals.Refusal.TheVariants.{TooManyTraits, TooManyClaims, NoClaimOut}
-use Rattle.scope.specs.Entries.{traits_of, claims_on, Claimed}
-use Rattle.scope.specs.Lists.{Distinct}
+use Rattle.scope.specs.Entries.{traits_of, claims_on, Valid}
 use Rattle.scope.specs.Places.{no_entry}
-use Rattle.scope.specs.Scopes.{held, Raised, Lowered, Full, Admits, Releases}
+use Rattle.scope.specs.Scopes.{Raised, Lowered, Full, Admits, Releases}
 use Rattle.scope.specs.declared.entries.Entry.{Entry}
-use Rattle.scope.specs.declared.shape.Scope.{Scope}
-use Rattle.scope.proofs.Lists.{distinct_had}
 use Rattle.scope.proofs.Claims.{trait_at, claims_at, claims_absent, in_at, claims_on_at}
 use Rattle.scope.proofs.Changes.{raised_push, raised_set, lowered_set, lowered_removed, admits_keeps, releases_keeps}
 
--- a write among the first n
-take_set_in : {X : Type 0} (xs : List X) (n i : ℕ) (x : X) → take n (set xs i x) ≡ set (take n xs) i x
-take_set_in xs zero i x = refl
-take_set_in [] (suc n) i x = refl
-take_set_in (y ∷ xs) (suc n) zero x = refl
-take_set_in (y ∷ xs) (suc n) (suc i) x = ap (λ l. y ∷ l) (take_set_in xs n i x)
-
 -- the first n without the one at i, where the later ones have moved up by one place
-take_moved_up : {X : Type 0} (xs ys : List X) (n i : ℕ) → i < n → n ≤ length xs → length ys ≡ length xs → ((k : ℕ) (d : X) → k < i → get_or ys k d ≡ get_or xs k d) → ((k : ℕ) (d : X) → i ≤ k → k < i + (n - (i + 1)) → get_or ys k d ≡ get_or xs (i + 1 + (k - i)) d) → take (n - 1) ys ≡ remove (take n xs) i
-take_moved_up xs ys n i h room same below above =
-    let whole : length (take n xs) ≡ n = length-take-le n xs room in
-    let less : length (remove (take n xs) i) + 1 ≡ length (take n xs) = length-remove (take n xs) i (omega arith) in
-    let front : length (take (n - 1) ys) ≡ n - 1 = length-take-le (n - 1) ys (omega arith) in
-    same_lists _ _ (omega arith) (λ k d l.
-    get_or-take (n - 1) ys k d (omega arith)
-    ∙ ⊎_elim
-    (λ (lt : k < i). below k d lt ∙ sym (get_or-take n xs k d (omega arith)) ∙ sym (get_or-remove_below (take n xs) i d k lt (omega arith)))
-    (λ (ge : i ≤ k).
-    let next : i + 1 + (k - i) ≡ k + 1 = omega arith in
-    above k d ge (omega arith) ∙ ap (λ j. get_or xs j d) next ∙ sym (get_or-take n xs (k + 1) d (omega arith)) ∙ sym (get_or-remove_above (take n xs) i d k ge (omega arith)))
-    (cases_lt k i))
+take_moved_up : {X : Type 0} (xs : List X) (n i : ℕ) → i < n → n ≤ length xs → take (n - 1) (copy_within xs (i + 1) n i) ≡ remove (take n xs) i
+take_moved_up xs n i h room =
+    let later = n - (i + 1) in
+    let behind = length-drop (i + 1) xs in
+    let front : n - 1 ≡ i + later = omega arith in
+    let all : (i + 1) + later ≡ n = omega arith in
+    ap (λ k. take k (copy_within xs (i + 1) n i)) front
+    ∙ take-paste xs i (drop (i + 1) xs) later (omega arith) (omega arith)
+    ∙ ap (λ l. l ++ take later (drop (i + 1) xs)) (sym (take-take i n xs (omega arith)))
+    ∙ ap (λ l. take i (take n xs) ++ l) (sym (drop-take (i + 1) later xs) ∙ ap (λ k. drop (i + 1) (take k xs)) all ∙ ap (λ k. drop k (take n xs)) (add-one i))
 
 not_full : (es : List Entry) (t : ℕ) → (claims_on es t ≡ 0 → length es ≡ 64 → ⊥) → (claims_on es t ≡ 65535 → ⊥) → (e : Refusal) → Full es t e → ⊥
 not_full es t room few e (inl p) = room p.1 p.2
 not_full es t room few e (inr p) = few p.1
 
--- the ghost fields of a scope
-abbrev Fields : List Entry → ℕ → Type 0
-Fields table len = record { size : length table ≡ 64; few : len ≤ 64; distinct : ∥ Distinct (traits_of (take len table)) ∥₁; claimed : Claimed (take len table) }
+-- es is what the table of a scope holds
+module _ (es table : List Entry) (len : ℕ) (is : take len table ≡ es) (size : length table ≡ 64) (inv : (len ≤ 64) × Valid (take len table)) where
+  v : Valid es
+  v = subst Valid is inv.1
 
-module _ (s : Scope) where
-  pub held_length : length (held s) ≡ s.len
-  unfolding held
-  held_length = length-take-le s.len s.table (omega (arith, s.size, s.few))
+  held_length : length es ≡ len
+  held_length = ap length (sym is) ∙ length-take-le len table (omega arith)
 
-  distinct : Distinct (traits_of (held s))
-  unfolding held
-  distinct = distinct_had _ s.distinct
+  pub admit_keeps : (t : ℕ) (to : List Entry) (n : ℕ) → n ≤ 64 → Admits es t (Ok tt) (take n to) → (n ≤ 64) × Valid (take n to)
+  admit_keeps t to n few a = (few, admits_keeps es t (Ok tt) (take n to) v a)
 
-  claimed : Claimed (held s)
-  unfolding held
-  claimed = s.claimed
-
-  pub after_admit : (t : ℕ) (table : List Entry) (len : ℕ) → length table ≡ 64 → len ≤ 64 → Admits (held s) t (Ok tt) (take len table) → Fields table len
-  after_admit t table len size few a =
-      let kept = admits_keeps (held s) t (Ok tt) (take len table) distinct claimed a in
-      record { size = size; few = few; distinct = ∣ kept.0 ∣₁; claimed = kept.1 }
-
-  pub after_release : (t : ℕ) (table : List Entry) (len : ℕ) → length table ≡ 64 → len ≤ 64 → Releases (held s) t (Ok tt) (take len table) → Fields table len
-  after_release t table len size few a =
-      let kept = releases_keeps (held s) t (Ok tt) (take len table) distinct claimed a in
-      record { size = size; few = few; distinct = ∣ kept.0 ∣₁; claimed = kept.1 }
+  pub release_keeps : (t : ℕ) (to : List Entry) (n : ℕ) → n ≤ 64 → Releases es t (Ok tt) (take n to) → (n ≤ 64) × Valid (take n to)
+  release_keeps t to n few a = (few, releases_keeps es t (Ok tt) (take n to) v a)
 
   -- the trait t is not in scope
-  module _ (t : ℕ) (absent : t ∈ traits_of (held s) → ⊥) where
-    none : claims_on (held s) t ≡ 0
-    none = claims_absent (held s) t absent
+  module _ (t : ℕ) (absent : t ∈ traits_of es → ⊥) where
+    none : claims_on es t ≡ 0
+    none = claims_absent es t absent
 
-    pub no_room : 64 ≤ s.len → Admits (held s) t (Err TooManyTraits) (held s)
-    no_room full = (inl (refl, none, omega (arith, held_length, s.few)), refl)
+    pub no_room : len ≡ 64 → Admits es t (Err TooManyTraits) es
+    no_room full = (inl (refl, none, held_length ∙ full), refl)
 
-    pub arrives : (x : Entry) → x.tr ≡ t → x.claims ≡ 1 → s.len < 64 → Admits (held s) t (Ok tt) (take (s.len + 1) (set s.table s.len x))
-    unfolding held
-    arrives x is one room = (
-      not_full (held s) t (λ _ n. omega (arith, held_length)) (λ n. omega (arith, none)),
-      subst (Raised (held s) t) (sym (take_more_set s.table s.len x (omega (arith, s.size)))) (raised_push (held s) distinct claimed t x is one absent),
-    )
+    pub arrives : len < 64 → Admits es t (Ok tt) (take (len + 1) (set table len (record { tr = t; claims = 1 })))
+    arrives room =
+        let x : Entry = record { tr = t; claims = 1 } in
+        let pushed = take_more_set table len x (omega arith) ∙ ap (λ l. l ++ (x ∷ [])) is in (
+          not_full es t (λ _ n. omega (arith, held_length)) (λ n. omega (arith, none)),
+          subst (Raised es t) (sym pushed) (raised_push es v.distinct v.claimed t x refl refl absent),
+        )
 
-    pub none_out : Releases (held s) t (Err NoClaimOut) (held s)
+    pub none_out : Releases es t (Err NoClaimOut) es
     none_out = (refl, none, refl)
 
-  -- at the place i of the table stands the trait t
-  module _ (i t : ℕ) (l : i < s.len) (is : trait_at s.table i ≡ t) where
-    in_held : get_or (held s) i no_entry ≡ get_or s.table i no_entry
-    unfolding held
-    in_held = get_or-take s.len s.table i no_entry l
+  -- at the place i stands the trait t
+  module _ (i t : ℕ) (l : i < length es) (here : trait_at es i ≡ t) where
+    within : i < len
+    within = omega (arith, held_length)
 
-    place : i < length (held s)
-    place = omega (arith, held_length)
+    same_claims : claims_at es i ≡ claims_at table i
+    same_claims = ap (λ xs. claims_at xs i) (sym is) ∙ ap (λ (e : Entry). e.claims) (get_or-take len table i no_entry within)
 
-    trait : trait_at (held s) i ≡ t
-    trait = ap (λ (e : Entry). e.tr) in_held ∙ is
+    same_trait : trait_at table i ≡ t
+    same_trait = sym (ap (λ xs. trait_at xs i) (sym is) ∙ ap (λ (e : Entry). e.tr) (get_or-take len table i no_entry within)) ∙ here
 
-    same_claims : claims_at (held s) i ≡ claims_at s.table i
-    same_claims = ap (λ (e : Entry). e.claims) in_held
+    claims_in : claims_at table i ≡ claims_on es t
+    claims_in = sym same_claims ∙ sym (claims_on_at es i v.distinct l) ∙ ap (claims_on es) here
 
-    pub claims_in : claims_at s.table i ≡ claims_on (held s) t
-    claims_in = sym same_claims ∙ sym (claims_on_at (held s) i distinct place) ∙ ap (claims_on (held s)) trait
+    some_out : (0 < claims_on es t) × (claims_on es t ≤ 65535)
+    some_out = v.claimed t (subst (λ u. u ∈ traits_of es) here (in_at es i l))
 
-    some_out : (0 < claims_on (held s) t) × (claims_on (held s) t ≤ 65535)
-    some_out = claimed t (subst (λ u. u ∈ traits_of (held s)) trait (in_at (held s) i place))
+    pub all_out : claims_at table i ≡ 65535 → Admits es t (Err TooManyClaims) es
+    all_out many = (inr (refl, sym claims_in ∙ many), refl)
 
-    pub all_out : 65535 ≤ claims_at s.table i → Admits (held s) t (Err TooManyClaims) (held s)
-    all_out many = (inr (refl, omega (arith, claims_in, some_out)), refl)
+    module _ (n : ℕ) where
+      abbrev written : Entry
+      written = record { tr = trait_at table i; claims = n }
 
-    module _ (x : Entry) (of : x.tr ≡ trait_at s.table i) where
-      placed : set (held s) i x ≡ take s.len (set s.table i x)
-      unfolding held
-      placed = sym (take_set_in s.table s.len i x)
+      placed : set es i written ≡ take len (set table i written)
+      placed = sym (take-set-lt len table i written within ∙ ap (λ xs. set xs i written) is)
 
-      pub rises : x.claims ≡ claims_at s.table i + 1 → claims_at s.table i < 65535 → Admits (held s) t (Ok tt) (take s.len (set s.table i x))
-      rises more few = (
-        not_full (held s) t (λ z _. omega (arith, some_out)) (λ n. omega (arith, claims_in)),
-        subst (Raised (held s) t) placed (raised_set (held s) distinct claimed t i place trait x (of ∙ is) (omega (arith, same_claims))),
+      pub rises : n ≡ claims_at table i + 1 → (claims_at table i ≡ 65535 → ⊥) → Admits es t (Ok tt) (take len (set table i written))
+      rises more free = (
+        not_full es t (λ z _. omega (arith, some_out)) (λ m. free (claims_in ∙ m)),
+        subst (Raised es t) placed (raised_set es v.distinct v.claimed t i l here written same_trait (omega (arith, same_claims))),
       )
 
-      pub falls : x.claims ≡ claims_at s.table i - 1 → 1 < claims_at s.table i → Releases (held s) t (Ok tt) (take s.len (set s.table i x))
+      pub falls : n ≡ claims_at table i - 1 → 1 < claims_at table i → Releases es t (Ok tt) (take len (set table i written))
       falls fewer many =
-          subst (Lowered (held s) t) placed (lowered_set (held s) distinct claimed t i place trait x (of ∙ is) (omega (arith, same_claims)) (omega (arith, same_claims)))
+          subst (Lowered es t) placed (lowered_set es v.distinct v.claimed t i l here written same_trait (omega (arith, same_claims)) (omega (arith, same_claims)))
 
-    pub leaves : claims_at s.table i ≤ 1 → (ys : List Entry) → length ys ≡ length s.table → ((k : ℕ) (d : Entry) → k < i → get_or ys k d ≡ get_or s.table k d) → ((k : ℕ) (d : Entry) → i ≤ k → k < i + (s.len - (i + 1)) → get_or ys k d ≡ get_or s.table (i + 1 + (k - i)) d) → Releases (held s) t (Ok tt) (take (s.len - 1) ys)
-    unfolding held
-    leaves last ys size below above =
-        let moved = take_moved_up s.table ys s.len i l (omega (arith, s.size, s.few)) size below above in
-        subst (Lowered (held s) t) (sym moved) (lowered_removed (held s) distinct claimed t i place trait (omega (arith, same_claims)))
+    pub leaves : claims_at table i ≤ 1 → (to : List Entry) → to ≡ copy_within table (i + 1) len i → Releases es t (Ok tt) (take (len - 1) to)
+    leaves last to after =
+        let moved = ap (take (len - 1)) after ∙ take_moved_up table len i within (omega arith) ∙ ap (λ xs. remove xs i) is in
+        subst (Lowered es t) (sym moved) (lowered_removed es v.distinct v.claimed t i l here (omega (arith, same_claims)))

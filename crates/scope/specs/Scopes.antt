@@ -1,15 +1,10 @@
--- What a scope holds, and what each call does to it.
-use Rattle.std.specs.Prelude.{◌≡◌, ℕ, ◌+◌, ◌<◌, ◌⊎◌, List, [], ◌∷◌, ◌++◌, length, take, Ok, Err, Result, ◌≢◌}
+-- What each call does to the traits in scope and their claims, in order of arrival.
+use Rattle.std.specs.Prelude.{◌≡◌, ℕ, ◌+◌, ◌<◌, ◌⊎◌, List, [], ◌∷◌, ◌++◌, length, Ok, Err, Result, ◌≢◌}
 use Rattle.host.specs.declared.refusals.Refusal.{Refusal}
 use Rattle.host.specs.declared.refusals.Refusal.TheVariants.{TooManyTraits, TooManyClaims, NoClaimOut}
 use Rattle.scope.specs.Entries.{traits_of, claims_on}
-use Rattle.scope.specs.Lists.{without}
+use Rattle.scope.specs.Lists.{Distinct, without}
 use Rattle.scope.specs.declared.entries.Entry.{Entry}
-use Rattle.scope.specs.declared.shape.Scope.{Scope}
-
--- the traits in scope with their claims, in order of arrival
-unfoldable pub held : Scope → List Entry
-held s = take s.len s.table
 
 abbrev pub Answer : Type 0
 Answer = Result (Unit {0}) Refusal
@@ -47,6 +42,7 @@ abbrev pub Releases : List Entry → ℕ → Answer → List Entry → Type 0
 Releases before t (Ok _) after = Lowered before t after
 Releases before t (Err e) after = (e ≡ NoClaimOut) × (claims_on before t ≡ 0) × (after ≡ before)
 
--- Two outcomes of the same call on the same scope are equal: the relations leave nothing open.
+-- Two outcomes of the same call on the same entries are equal, where one of them has each trait once, as every scope has:
+-- the relations leave nothing open.
 abbrev pub Determined : (List Entry → ℕ → Answer → List Entry → Type 0) → Type 0
-Determined Call = (s x y : Scope) (t : ℕ) (a b : Answer) → Call (held s) t a (held x) → Call (held s) t b (held y) → (a ≡ b) × (held x ≡ held y)
+Determined Call = (es fs gs : List Entry) (t : ℕ) (a b : Answer) → Distinct (traits_of fs) → Call es t a fs → Call es t b gs → (a ≡ b) × (fs ≡ gs)

@@ -1,20 +1,26 @@
-ghost use Rattle.std.specs.Prelude.{◌≡◌, ◌≤◌, length, take};
-ghost use Rattle.scope.specs.Entries.{traits_of, Claimed};
-ghost use Rattle.scope.specs.Lists.{Distinct};
+ghost use Rattle.std.specs.Prelude.{◌≤◌, List, take};
+ghost use Rattle.scope.specs.Entries.{Valid};
+ghost use Rattle.scope.specs.declared.entries.Entry.{Entry};
 
 use super::entries::Entry;
+use std::marker::Model;
 
 // How many traits can be in scope.
 pub const MOST_TRAITS: usize = 64;
 
-// The first `len` entries of the table are the traits in scope, in order of arrival. No trait has two entries, and each
-// has a claim out.
+// The traits in scope: the first `len` entries of the table. It is a rule that this is one table of fixed size, and that
+// nothing is allocated.
 #[derive(Drop)]
 pub struct Scope {
     pub(crate) table: [Entry; MOST_TRAITS],
     pub(crate) len: usize,
-    ghost size: { length table ≡ 64 },
-    ghost few: { len ≤ 64 },
-    ghost distinct: { ∥ Distinct (traits_of (take len table)) ∥₁ },
-    ghost claimed: { Claimed (take len table) },
+}
+
+// Clauses see the entries in order of arrival. No trait has two of them, and each has a claim out.
+impl Model for Scope {
+    ghost Value = { List Entry };
+
+    ghost view = { λ s. take s.len s.table };
+
+    ghost invariant = { λ s. (s.len ≤ 64) × Valid (take s.len s.table) };
 }

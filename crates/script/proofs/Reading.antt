@@ -1,10 +1,8 @@
 -- What the proofs share: the steps of reading, one after the other.
-use Rattle.std.proofs.Common.{◌≡◌, ℕ, ◌+◌, ◌-◌, ◌<◌, ◌≤◌, true, false, ◌⊎◌, List, [], ◌∷◌, ◌++◌, length, get_or, take, drop, set, IsErrAnd, Ok, Err, Result, sym, refl, ap, ◌∙◌, inl, inr, add_assoc, arith, Bor}
-use Rattle.std.specs.Str.{bytes_eq}
-use Rattle.std.proofs.lemmas.Slice.Eq.{bytes_eq-Decides}
-use Rattle.std.proofs.lemmas.List.{append_assoc, append-nil, length-map, drop_more, take_rest, take_more_set, get_or-map, drop_all, take_all}
+use Rattle.std.proofs.Common.{◌≡◌, ℕ, ◌+◌, ◌<◌, ◌≤◌, List, [], ◌∷◌, ◌++◌, length, get_or, take, drop, set, IsErrAnd, Ok, Err, Result, sym, refl, ap, ◌∙◌, add_assoc, arith, Bor}
+use Rattle.std.proofs.lemmas.List.{append_assoc, append-nil, length-map, drop_more, take_more_set, get_or-map, drop_all, take_all}
 use Rattle.std.proofs.lemmas.Result.{err_from_is_err_and}
-use Rattle.std.proofs.lemmas.Bool.{cases_Bool, lt-ltb, le-ltb, cond-true, cond-false}
+use Rattle.std.proofs.lemmas.Bool.Decides.{nat_tests}
 use Rattle.script.specs.declared.faults.Fault.{Fault}
 use Rattle.script.specs.declared.faults.Fault.TheVariants.{TooFewWords, TooManyWords}
 use Rattle.script.specs.Grammar.{Text, texts, ◌then◌, exactly, number_at, numbers_from}
@@ -13,48 +11,23 @@ use Rattle.script.specs.Grammar.{Text, texts, ◌then◌, exactly, number_at, nu
 pub failed : {X : Type 0} (r : Result X Fault) (fault : Fault) → IsErrAnd r (λ e. e ≡ fault) → r ≡ Err fault
 failed r fault h = let p = err_from_is_err_and r h in p.1 ∙ ap Err p.2
 
--- a word that is not the key
-pub other_text : (w key : Text) → (w ≡ key → ⊥) → bytes_eq w key ≡ false
-other_text w key ne = step (cases_Bool (bytes_eq w key))
-  where
-    step : (bytes_eq w key ≡ true) ⊎ (bytes_eq w key ≡ false) → bytes_eq w key ≡ false
-    step (inl e) = absurd (ne ((bytes_eq-Decides w key).0 e))
-    step (inr e) = e
-
--- the first words of a line, as a slice's pattern names them
+-- stands for what lies past the end
 abbrev pub blank : Bor Text
 blank = record { ref_ptr = (0, 0); now = [] }
-
-abbrev pub behind_words : ℕ → List (Bor Text) → List (Bor Text)
-behind_words k ws = take (length ws - k) (drop k ws)
-
-pub first_word : (ws : List (Bor Text)) → 0 < length ws → texts ws ≡ (get_or ws 0 blank).now ∷ texts (behind_words 1 ws)
-first_word [] h = absurd (omega arith)
-first_word (w ∷ ws) h = ap (λ v. w.now ∷ texts v) (sym (take_rest (w ∷ ws) 1))
-
-pub two_words : (ws : List (Bor Text)) → 1 < length ws →
-    texts ws ≡ (get_or ws 0 blank).now ∷ (get_or ws 1 blank).now ∷ texts (behind_words 2 ws)
-two_words [] h = absurd (omega arith)
-two_words (w ∷ []) h = absurd (omega arith)
-two_words (w ∷ v ∷ ws) h = ap (λ u. w.now ∷ v.now ∷ texts u) (sym (take_rest (w ∷ v ∷ ws) 2))
 
 -- the count of the words
 module _ {X : Type 0} (count : ℕ) (ws : List (Bor Text)) (r : Result X Fault) where
   pub few : length ws < count → exactly count (texts ws) r ≡ Err TooFewWords
   unfolding exactly
-  few h = cond-true _ _ _ (lt-ltb (length (texts ws)) count (simp length-map h))
+  few h = simp length-map (grind (arith, nat_tests))
 
   pub many : count < length ws → exactly count (texts ws) r ≡ Err TooManyWords
   unfolding exactly
-  many h =
-      cond-false _ _ _ (le-ltb (length (texts ws)) count (simp length-map (omega arith))) ∙
-      cond-true _ _ _ (lt-ltb count (length (texts ws)) (simp length-map h))
+  many h = simp length-map (grind (arith, nat_tests))
 
   pub counted : length ws ≡ count → exactly count (texts ws) r ≡ r
   unfolding exactly
-  counted h =
-      cond-false _ _ _ (le-ltb (length (texts ws)) count (simp length-map (omega arith))) ∙
-      cond-false _ _ _ (le-ltb count (length (texts ws)) (simp length-map (omega arith)))
+  counted h = simp length-map (grind (arith, nat_tests))
 
 -- the numbers behind those already read
 abbrev pub behind : List ℕ → Result (List ℕ) Fault → Result (List ℕ) Fault

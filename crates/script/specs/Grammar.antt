@@ -4,7 +4,7 @@
 -- first from the left, is no number; a kind, class, wrap or mode, the first from the left, is outside its list. In `ask`
 -- the ID and the question's number are read first, since they say how many words are wanted. In `host` the ID is read
 -- before the kind.
-use Rattle.std.specs.Prelude.{◌≡◌, ℕ, ◌+◌, ◌-◌, ◌*◌, ◌^◌, Bool, true, cond, ◌&&◌, List, [], ◌∷◌, map, length, Some, None, Ok, Err, codes, Option, Result, ◌==◌, nat_eq, nat_le, nat_lt, slice_index}
+use Rattle.std.specs.Prelude.{◌≡◌, ℕ, ◌+◌, ◌-◌, ◌*◌, ◌^◌, Bool, true, if◌then◌else◌, find, ◌&&◌, List, [], ◌∷◌, map, length, Some, None, Ok, Err, codes, Option, Result, ◌==◌, nat_le, nat_lt, slice_index}
 use Rattle.std.specs.Borrow.{Bor}
 use Rattle.std.specs.Option.{ok_or}
 use Rattle.std.specs.Str.{bytes_eq}
@@ -16,9 +16,16 @@ use Rattle.host.specs.declared.forms.Wrap.{Wrap}
 use Rattle.host.specs.declared.forms.Wrap.TheVariants as wrap
 use Rattle.host.specs.declared.forms.Mode.{Mode}
 use Rattle.host.specs.declared.forms.Mode.TheVariants as mode
+use Rattle.host.specs.declared.forms.QuestionKind.{QuestionKind}
+use Rattle.host.specs.declared.forms.QuestionKind.TheVariants as kind
+use Rattle.host.specs.declared.forms.ItemId.{ItemId}
+use Rattle.host.specs.declared.forms.Trial.{Trial}
+use Rattle.host.specs.declared.forms.TraitItem.{TraitItem}
+use Rattle.host.specs.declared.numbers.UnknownNumber.{UnknownNumber}
 use Rattle.host.specs.declared.questions.Question.{Question}
 use Rattle.host.specs.declared.questions.Question.TheVariants as question
-use Rattle.host.specs.Numbers.{container_number, class_number, wrap_number, mode_number}
+use Rattle.host.specs.Numbers.{container_number, class_number, wrap_number, mode_number, question_number}
+use Rattle.rows.specs.Rows.{key}
 use Rattle.script.specs.declared.commands.Command.{Command}
 use Rattle.script.specs.declared.commands.Command.TheVariants as command
 use Rattle.script.specs.declared.commands.HostKind.{HostKind}
@@ -51,7 +58,7 @@ value w = value_after 0 w
 
 -- the number that a text writes: decimal digits alone, at least one, and below 2 ^ 32
 unfoldable pub decimal : Text → Option ℕ
-decimal w = cond (digits w && (nat_lt 0 (length w) && nat_lt (value w) (2 ^ 32))) (Some (value w)) None
+decimal w = if digits w && (nat_lt 0 (length w) && nat_lt (value w) (2 ^ 32)) then Some (value w) else None
 
 -- Faults.
 
@@ -63,7 +70,7 @@ Err fault then next = Err fault
 
 -- the words are exactly so many
 unfoldable pub exactly : {X : Type 0} → ℕ → List Text → Result X Fault → Result X Fault
-exactly count ws r = cond (nat_lt (length ws) count) (Err TooFewWords) (cond (nat_lt count (length ws)) (Err TooManyWords) r)
+exactly count ws r = if nat_lt (length ws) count then Err TooFewWords else if nat_lt count (length ws) then Err TooManyWords else r
 
 -- the number of the word at that place
 abbrev pub number_at : ℕ → Text → Result ℕ Fault
@@ -82,64 +89,87 @@ numbers first count ws next = exactly count ws (numbers_from first ws) then λ n
 
 -- the member that has the number n
 abbrev pub member : {X : Type 0} → (X → ℕ) → List X → ℕ → Option X
-member code [] n = None
-member code (x ∷ xs) n = cond (code x == n) (Some x) (member code xs n)
+member code xs n = find (λ x. code x == n) xs
+
+abbrev pub container_kinds : List ContainerKind
+container_kinds = container.Impl ∷ container.Trait ∷ []
+
+abbrev pub candidate_classes : List CandidateClass
+candidate_classes = class.Impl ∷ class.Object ∷ class.Trait ∷ class.Bound ∷ []
+
+abbrev pub wraps : List Wrap
+wraps = wrap.Bare ∷ wrap.Ref ∷ wrap.RefMut ∷ wrap.ConstPtr ∷ []
+
+abbrev pub modes : List Mode
+modes = mode.MethodCall ∷ mode.Path ∷ []
+
+abbrev pub question_kinds : List QuestionKind
+question_kinds = kind.Form ∷ kind.Own ∷ kind.Stray ∷ kind.Item ∷ kind.Bound ∷ kind.Supers ∷ kind.Visible ∷ kind.Skips ∷ kind.Applies ∷ kind.Source ∷ []
 
 -- the member that the number at that place stands for
 abbrev pub kind_at : ℕ → (ℕ → ℕ) → Result ContainerKind Fault
-kind_at place n = ok_or (member container_number (container.Impl ∷ container.Trait ∷ []) (n place)) (OutsideList place)
+kind_at place n = ok_or (member container_number container_kinds (n place)) (OutsideList place)
 
 abbrev pub class_at : ℕ → (ℕ → ℕ) → Result CandidateClass Fault
-class_at place n = ok_or (member class_number (class.Impl ∷ class.Object ∷ class.Trait ∷ class.Bound ∷ []) (n place)) (OutsideList place)
+class_at place n = ok_or (member class_number candidate_classes (n place)) (OutsideList place)
 
 abbrev pub wrap_at : ℕ → (ℕ → ℕ) → Result Wrap Fault
-wrap_at place n = ok_or (member wrap_number (wrap.Bare ∷ wrap.Ref ∷ wrap.RefMut ∷ wrap.ConstPtr ∷ []) (n place)) (OutsideList place)
+wrap_at place n = ok_or (member wrap_number wraps (n place)) (OutsideList place)
 
 abbrev pub mode_at : ℕ → (ℕ → ℕ) → Result Mode Fault
-mode_at place n = ok_or (member mode_number (mode.MethodCall ∷ mode.Path ∷ []) (n place)) (OutsideList place)
+mode_at place n = ok_or (member mode_number modes (n place)) (OutsideList place)
 
--- the same of any closed set: r is the member of that number, or the fault at that place
-pub record Listed {X : Type 0} (code : X → ℕ) (place n : ℕ) (r : Result X Fault) : Type 0 where
-  pub numbered : (x : X) → r ≡ Ok x → code x ≡ n
-  pub found : (x : X) → code x ≡ n → r ≡ Ok x
-  pub outside : (fault : Fault) → r ≡ Err fault → fault ≡ OutsideList place
+-- the kind of question that has that number
+abbrev pub question_at : ℕ → Result QuestionKind Fault
+question_at q = ok_or (member question_number question_kinds q) UnknownQuestion
+
+-- the same of any closed set: r is the member that the number is read as, or the fault where it is none's
+abbrev pub ReadAs : {X : Type 0} → (ℕ → Result X UnknownNumber → Type 0) → Fault → ℕ → Result X Fault → Type 0
+ReadAs gives fault n (Ok x) = gives n (Ok x)
+ReadAs gives fault n (Err f) = (f ≡ fault) × ((e : UnknownNumber) × gives n (Err e))
+
+abbrev pub Listed : {X : Type 0} → (ℕ → Result X UnknownNumber → Type 0) → ℕ → ℕ → Result X Fault → Type 0
+Listed gives place n r = ReadAs gives (OutsideList place) n r
 
 -- Tables.
 
 -- what stands beside the key k, or else what is given for every other key
 abbrev pub beside : {K X : Type 0} → (K → K → Bool) → K → List (K × X) → X → X
 beside same k [] other = other
-beside same k ((key, x) ∷ more) other = cond (same k key) x (beside same k more other)
+beside same k ((key, x) ∷ more) other = if same k key then x else beside same k more other
 
 -- Questions: ws are the words behind the question's number, from place 4 on.
 
 -- the item that questions 4 and 7 ask about
-unfoldable pub item_of : List Text → Result (ContainerKind × ℕ × ℕ) Fault
-item_of ws = numbers 4 3 ws (λ n. kind_at 4 n then λ k. Ok (k, n 5, n 6))
+unfoldable pub item_of : List Text → Result ItemId Fault
+item_of ws = numbers 4 3 ws (λ n. kind_at 4 n then λ k. Ok (record { kind = k; container = n 5; place = n 6 }))
 
-unfoldable pub applies_line : List Text → Result Question Fault
+-- the candidate that question 9 tries
+unfoldable pub applies_line : List Text → Result Trial Fault
 applies_line ws = numbers 4 7 ws (λ n.
     class_at 4 n then λ c. wrap_at 9 n then λ w. mode_at 10 n then λ m.
-    Ok (question.Applies c (n 5) (n 6) (n 7) (n 8) w m))
+    Ok (record { class = c; container = n 5; place = n 6; origin = n 7; ty = n 8; wrap = w; mode = m }))
 
-unfoldable pub source_line : List Text → Result Question Fault
+-- the trait's item that question 10 asks about
+unfoldable pub source_line : List Text → Result TraitItem Fault
 source_line ws = numbers 4 5 ws (λ n.
     wrap_at 7 n then λ w. mode_at 8 n then λ m.
-    Ok (question.Source (n 4) (n 5) (n 6) w m))
+    Ok (record { tr = n 4; place = n 5; ty = n 6; wrap = w; mode = m }))
+
+unfoldable pub question_of : QuestionKind → List Text → Result Question Fault
+question_of kind.Form ws = numbers 4 1 ws (λ n. Ok (question.Form (n 4)))
+question_of kind.Own ws = numbers 4 2 ws (λ n. Ok (question.Own (n 4) (n 5)))
+question_of kind.Stray ws = numbers 4 2 ws (λ n. Ok (question.Stray (n 4) (n 5)))
+question_of kind.Item ws = item_of ws then λ i. Ok (question.Item i)
+question_of kind.Bound ws = numbers 4 2 ws (λ n. Ok (question.Bound (n 4) (n 5)))
+question_of kind.Supers ws = numbers 4 2 ws (λ n. Ok (question.Supers (n 4) (n 5)))
+question_of kind.Visible ws = item_of ws then λ i. Ok (question.Visible i)
+question_of kind.Skips ws = numbers 4 1 ws (λ n. Ok (question.Skips (n 4)))
+question_of kind.Applies ws = applies_line ws then λ a. Ok (question.Applies a)
+question_of kind.Source ws = source_line ws then λ i. Ok (question.Source i)
 
 unfoldable pub question_line : ℕ → List Text → Result Question Fault
-question_line q ws = beside nat_eq q
-    ((1, numbers 4 1 ws (λ n. Ok (question.Form (n 4))))
-    ∷ (2, numbers 4 2 ws (λ n. Ok (question.Own (n 4) (n 5))))
-    ∷ (3, numbers 4 2 ws (λ n. Ok (question.Stray (n 4) (n 5))))
-    ∷ (4, item_of ws then λ i. Ok (question.Item i.0 i.1 i.2))
-    ∷ (5, numbers 4 2 ws (λ n. Ok (question.Bound (n 4) (n 5))))
-    ∷ (6, numbers 4 2 ws (λ n. Ok (question.Supers (n 4) (n 5))))
-    ∷ (7, item_of ws then λ i. Ok (question.Visible i.0 i.1 i.2))
-    ∷ (8, numbers 4 1 ws (λ n. Ok (question.Skips (n 4))))
-    ∷ (9, applies_line ws)
-    ∷ (10, source_line ws)
-    ∷ []) (Err UnknownQuestion)
+question_line q ws = question_at q then λ k. question_of k ws
 
 -- Commands: ws are the words behind the command, from place 2 on.
 
@@ -156,14 +186,7 @@ host_line (id ∷ kind ∷ more ∷ ws) = Err TooManyWords
 -- row Q A1 A2 A3 A4 A5 A6 A7 R1 R2 R3
 unfoldable pub row_line : List Text → Result Command Fault
 row_line ws = numbers 2 11 ws (λ n. Ok (command.Row (record {
-  question = n 2;
-  a1 = n 3;
-  a2 = n 4;
-  a3 = n 5;
-  a4 = n 6;
-  a5 = n 7;
-  a6 = n 8;
-  a7 = n 9;
+  key = key (n 2) (n 3) (n 4) (n 5) (n 6) (n 7) (n 8) (n 9);
   r1 = n 10;
   r2 = n 11;
   r3 = n 12;

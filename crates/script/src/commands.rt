@@ -2,13 +2,15 @@
 use host::Question;
 use rows::Row;
 
-#[derive(Clone, Copy, PartialEq)]
+// The kinds of hosts that a script can begin.
+#[derive(Clone, Copy, PartialEq, Eq)]
 pub enum HostKind {
     Tabled,
     Empty,
 }
 
-#[derive(Clone, Copy, PartialEq)]
+// A command, with its arguments.
+#[derive(Clone, Copy, PartialEq, Eq)]
 pub enum Command {
     // A line with no words.
     Nothing,

@@ -5,7 +5,7 @@ ghost use Rattle.script.specs.Reasons.{reason};
 use std::fmt;
 
 // A place counts the words of the line from 1.
-#[derive(Clone, Copy, PartialEq)]
+#[derive(Clone, Copy, PartialEq, Eq)]
 pub enum Fault {
     UnknownCommand,
     TooFewWords,

@@ -15,6 +15,8 @@ use questions::numbered_question;
 use rows::Row;
 use words::{number_at, numbers};
 
+// No `FromStr`: the fault speaks of the word's place on its line.
+#[tactic(auto, unfolding(crate::specs::Grammar::host_kind))]
 fn host_kind(word: &str) -> Result<HostKind, Fault>
     ensures { result ≡ host_kind word.now }
 {
@@ -26,6 +28,7 @@ fn host_kind(word: &str) -> Result<HostKind, Fault>
 }
 
 // What follows `host`: ID tabled, or ID empty.
+#[tactic(auto, unfolding(crate::specs::Grammar::host_line))]
 fn host_line(words: &[&str]) -> Result<Command, Fault>
     ensures { result ≡ host_line (texts words.now) }
 {
@@ -41,26 +44,16 @@ fn host_line(words: &[&str]) -> Result<Command, Fault>
 }
 
 // What follows `row`: Q A1 A2 A3 A4 A5 A6 A7 R1 R2 R3.
+#[tactic(auto, unfolding(crate::specs::Grammar::row_line))]
 fn row_line(words: &[&str]) -> Result<Command, Fault>
     ensures { result ≡ row_line (texts words.now) }
 {
-    let [question, a1, a2, a3, a4, a5, a6, a7, r1, r2, r3] = numbers::<11>(words, 2)?;
-    Ok(Command::Row(Row {
-        question,
-        a1,
-        a2,
-        a3,
-        a4,
-        a5,
-        a6,
-        a7,
-        r1,
-        r2,
-        r3,
-    }))
+    let row = Row::from(numbers::<11>(words, 2)?);
+    Ok(Command::Row(row))
 }
 
 // What follows `open`: ID.
+#[tactic(auto, unfolding(crate::specs::Grammar::open_line))]
 fn open_line(words: &[&str]) -> Result<Command, Fault>
     ensures { result ≡ open_line (texts words.now) }
 {
@@ -69,6 +62,7 @@ fn open_line(words: &[&str]) -> Result<Command, Fault>
 }
 
 // What follows `ask`: ID QUESTION ARGUMENT...
+#[tactic(auto, unfolding(crate::specs::Grammar::ask_line))]
 fn ask_line(words: &[&str]) -> Result<Command, Fault>
     ensures { result ≡ ask_line (texts words.now) }
 {
@@ -82,6 +76,7 @@ fn ask_line(words: &[&str]) -> Result<Command, Fault>
 }
 
 // What the line of these words says.
+#[tactic(auto, unfolding(crate::specs::Grammar::parsed))]
 pub fn parse(words: &[&str]) -> Result<Command, Fault>
     ensures { result ≡ parsed (texts words.now) }
 {
@@ -100,11 +95,12 @@ pub fn parse(words: &[&str]) -> Result<Command, Fault>
 #[cfg(test)]
 mod tests {
     use super::*;
-    use host::{CandidateClass, ContainerKind, Mode, Question, Wrap};
+    use host::{CandidateClass, ContainerKind, ItemId, Mode, Question, TraitItem, Trial, Wrap};
+    use rows::Key;
 
     #[test]
     fn commands(rt: HostRuntime) {
-        let row = Row {
+        let key = Key {
             question: 1,
             a1: 2,
             a2: 3,
@@ -113,6 +109,9 @@ mod tests {
             a5: 6,
             a6: 7,
             a7: 8,
+        };
+        let row = Row {
+            key,
             r1: 9,
             r2: 10,
             r3: 11,
@@ -147,12 +146,12 @@ mod tests {
 
     #[test]
     fn questions(rt: HostRuntime) {
-        let visible = Question::Visible {
+        let visible = Question::Visible(ItemId {
             kind: ContainerKind::Trait,
             container: 2,
             place: 3,
-        };
-        let applies = Question::Applies {
+        });
+        let applies = Question::Applies(Trial {
             class: CandidateClass::Bound,
             container: 20,
             place: 30,
@@ -160,14 +159,14 @@ mod tests {
             ty: 50,
             wrap: Wrap::RefMut,
             mode: Mode::Path,
-        };
-        let source = Question::Source {
+        });
+        let source = Question::Source(TraitItem {
             tr: 20,
             place: 30,
             ty: 40,
             wrap: Wrap::Ref,
             mode: Mode::MethodCall,
-        };
+        });
         let lines: [(&[&str], Question); 4] = [
             (
                 &["ask", "5", "6", "8", "9"],

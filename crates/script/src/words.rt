@@ -1,9 +1,9 @@
 // Words that write numbers.
 ghost use Rattle.std.specs.Prelude.{◌≡◌, ◌+◌, ◌^◌, ◌<◌};
-ghost use Rattle.script.specs.Grammar.{decimal, number_at, numbers_from, exactly, texts, Listed};
+ghost use Rattle.script.specs.Grammar.{decimal, number_at, numbers_from, exactly, texts, ReadAs, Listed};
 
 use super::faults::Fault;
-use host::Numbered;
+use host::UnknownNumber;
 
 // The number that a word writes, by decimal digits alone.
 fn number(word: &str) -> Option<u32>
@@ -24,6 +24,7 @@ pub(crate) fn number_at(word: &str, place: usize) -> Result<u32, Fault>
 }
 
 // The numbers of exactly N words, the first of which stands at the place `first` of the line.
+#[tactic(auto, using(crate::proofs::Reading::few, crate::proofs::Reading::many))]
 pub(crate) fn numbers<const N: usize>(words: &[&str], first: usize) -> Result<[u32; N], Fault>
     requires { first + N < 2 ^ 64 }
     ensures { result ≡ exactly N (texts words.now) (numbers_from first (texts words.now)) }
@@ -35,15 +36,29 @@ pub(crate) fn numbers<const N: usize>(words: &[&str], first: usize) -> Result<[u
         return Err(Fault::TooManyWords);
     }
     let mut found = [0; N];
+    // A zip of places and words would be no plainer, since the fault's place is counted too.
     for (i, word) in words.iter().enumerate() {
         found[i] = number_at(word, first + i)?;
     }
     Ok(found)
 }
 
-// The member of a closed set that the number at that place of the line stands for.
-pub(crate) fn listed<T: Numbered>(number: u32, place: usize) -> Result<T, Fault>
-    ensures { Listed T.Numbered.code place number result }
+// The member of a closed set that has that number, or else the fault.
+pub(crate) fn read_as<T: TryFrom<u32, Error = UnknownNumber>>(
+    number: u32,
+    fault: Fault,
+) -> Result<T, Fault>
+    ensures { ReadAs T.try_from_gives fault number result }
 {
-    T::from_number(number).ok_or(Fault::OutsideList { word: place })
+    T::try_from(number).map_err(|_| fault)
+}
+
+// The same of the number at that place of the line.
+pub(crate) fn listed<T: TryFrom<u32, Error = UnknownNumber>>(
+    number: u32,
+    place: usize,
+) -> Result<T, Fault>
+    ensures { Listed T.try_from_gives place number result }
+{
+    read_as(number, Fault::OutsideList { word: place })
 }

@@ -1,10 +1,15 @@
 -- Tests for equal numbers and containers, and kinds by number.
-use Rattle.std.proofs.Common.{◌≡◌, ℕ, cond, eqb, ◌≢◌, Some, None, Option, sym, refl, ap, ◌∙◌, arith}
+use Rattle.std.proofs.Common.{◌≡◌, ℕ, cond, eqb, ◌≢◌, Some, None, Option, Ok, Err, Result, sym, refl, ap, ◌∙◌, arith}
 use Rattle.std.specs.Option.{option_map}
 use Rattle.std.specs.List.{slice_get}
+use Rattle.std.specs.Result.{result_ok}
 use Rattle.std.proofs.lemmas.Option.{slice_get_past}
-use Rattle.std.proofs.lemmas.Bool.{eqb-true, eq-eqb, and_parts, and_from}
-use Rattle.host.specs.Numbers.{Reads, container_number}
+use Rattle.std.proofs.lemmas.Bool.{eqb-true, eq-eqb, ne_eqb, and_parts, and_from}
+use Rattle.host.specs.Numbers.{Reads, container_number, question_number}
+use Rattle.host.specs.declared.numbers.UnknownNumber.{UnknownNumber}
+use Rattle.host.specs.declared.forms.QuestionKind.{QuestionKind}
+use Rattle.host.specs.declared.forms.QuestionKind.TheVariants.{Item}
+use Rattle.rows.specs.Rows.{Speaks}
 use Rattle.host.specs.declared.forms.ContainerKind.{ContainerKind}
 use Rattle.host.specs.declared.forms.ContainerKind.TheVariants.{Impl, Trait}
 use Rattle.rows.specs.declared.rows.Row.{Row}
@@ -34,17 +39,20 @@ kind_back : (k : ContainerKind) → slice_get kinds (container_number k) ≡ Som
 kind_back Impl = refl
 kind_back Trait = refl
 
-never : {X : Type 0} (x : X) → None ≡ Some x → ⊥
-never x e = let z : ◌≡◌ {A = ℕ} 0 1 = cc in omega arith
-
 -- what a number reads as, by its place among the kinds
-pub kind_read : (n : ℕ) (r : Option ContainerKind) → Reads container_number n r → r ≡ slice_get kinds n
-kind_read n (Some k) h = sym (kind_back k) ∙ ap (slice_get kinds) ((h k).0 refl)
-kind_read n None h =
-    let a : 0 ≢ n = λ e. never Impl ((h Impl).1 e) in
-    let b : 1 ≢ n = λ e. never Trait ((h Trait).1 e) in
+kind_read : (n : ℕ) (r : Result ContainerKind UnknownNumber) → Reads container_number n r → result_ok r ≡ slice_get kinds n
+kind_read n (Ok k) h = sym (kind_back k) ∙ ap (slice_get kinds) h.1
+kind_read n (Err e) h =
+    let a : 0 ≢ n = λ e. (let z = h.0 Impl e in let y : ◌≡◌ {A = ℕ} 0 1 = cc in omega arith) in
+    let b : 1 ≢ n = λ e. (let z = h.0 Trait e in let y : ◌≡◌ {A = ℕ} 0 1 = cc in omega arith) in
     sym (slice_get_past kinds n (omega arith))
 
--- the container of a row of items, whose kind reads as o
-pub container_read : (r : Row) (o : Option ContainerKind) → r.question ≡ 4 → Reads container_number r.a1 o → option_map (numbered r) o ≡ container_in r
-container_read r o q h = ap (option_map (numbered r)) (kind_read r.a1 o h) ∙ sym (ap (λ t. cond t (option_map (numbered r) (slice_get kinds r.a1)) None) (eq-eqb r.question 4 q))
+-- the container of a row of an item, whose kind reads as k
+pub of_an_item : (r : Row) (o : Option QuestionKind) (k : Result ContainerKind UnknownNumber) → Speaks r o → o ≡ Some Item → Reads container_number r.key.a1 k → option_map (numbered r) (result_ok k) ≡ container_in r
+of_an_item r o k asked is h =
+    ap (option_map (numbered r)) (kind_read r.key.a1 k h) ∙ sym (ap (λ t. cond t (option_map (numbered r) (slice_get kinds r.key.a1)) None) (eq-eqb r.key.question (question_number Item) (sym ((asked Item).0 is))))
+
+-- and of another row
+pub of_no_item : (r : Row) (o : Option QuestionKind) → Speaks r o → (o ≡ Some Item → ⊥) → None ≡ container_in r
+of_no_item r o asked other =
+    sym (ap (λ t. cond t (option_map (numbered r) (slice_get kinds r.key.a1)) None) (ne_eqb r.key.question (question_number Item) (λ e. other ((asked Item).1 (sym e)))))

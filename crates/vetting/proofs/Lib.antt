@@ -1,3 +1,6 @@
 pub mod Keeping
 pub mod Equals
-pub mod Places
+pub mod Giving
+pub mod Asking
+pub mod Called
+pub mod Mentioned

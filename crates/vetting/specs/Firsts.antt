@@ -1,6 +1,5 @@
 -- Lists with each element once, where it first comes.
-use Rattle.std.specs.Prelude.{Bool, cond, List, [], ◌∷◌, ◌++◌, Some, None, Option}
-use Rattle.roll.specs.Equality.{on}
+use Rattle.std.specs.Prelude.{Bool, cond, List, [], ◌∷◌}
 use Rattle.host.specs.Meaning.{◌∈◌}
 
 -- a list without what is the same as x
@@ -12,11 +11,6 @@ without same x (y ∷ ys) = cond (same x y) (without same x ys) (y ∷ without s
 abbrev pub firsts : {X : Type 0} → (X → X → Bool) → List X → List X
 firsts same [] = []
 firsts same (x ∷ xs) = x ∷ without same x (firsts same xs)
-
--- one more at the end, if there is one and it is not on the list
-abbrev pub noted : {X : Type 0} → (X → X → Bool) → List X → Option X → List X
-noted same xs None = xs
-noted same xs (Some x) = cond (on same xs x) xs (xs ++ x ∷ [])
 
 -- no element stands twice
 abbrev pub Once : {X : Type 0} → List X → Type 0

@@ -1,35 +1,23 @@
 // The items that carry a name.
-ghost use Rattle.std.specs.Prelude.{◌≡◌, ◌++◌, IfOk, OnOk};
+ghost use Rattle.std.specs.Prelude.{◌≡◌, IfOk};
 ghost use Rattle.std.specs.List.{flat_map};
-ghost use Rattle.vetting.specs.Carriers.{carried};
+ghost use Rattle.vetting.specs.Carriers.{carried, named_at};
 
 use super::holders::Container;
-use super::listing::LONGEST;
-use host::{Host, ItemId};
+use host::{Host, ItemId, MOST_ENTRIES};
 use std::alloc::{AllocError, Global};
 
-// Puts the items of one container that carry the name behind what was found.
-fn add_carriers<H: Host>(
-    found: &mut Vec<ItemId>,
-    host: &H,
-    container: Container,
-    name: u32,
-) -> Result<(), AllocError>
-    ensures { OnOk result (found.new.items ≡ found.old.items ++ carried (H.Host.meaning host.now) name container) }
+// The item of a container at a place, with its name.
+fn named_at<H: Host>(host: &H, container: Container, place: u32) -> Option<(ItemId, u32)>
+    ensures { result ≡ named_at (H.Host.meaning host.now) container place }
 {
-    for place in 0..LONGEST {
-        let Some(item) = host.item(container.kind, container.number, place) else {
-            return Ok(());
-        };
-        if item.name == name {
-            found.push(ItemId {
-                kind: container.kind,
-                container: container.number,
-                place,
-            })?;
-        }
-    }
-    Ok(())
+    let id = ItemId {
+        kind: container.kind,
+        container: container.number,
+        place,
+    };
+    let item = host.item(id)?;
+    Some((id, item.name))
 }
 
 // The items that carry a name, in the containers' order, then by place: aliases, constants and functions alike.
@@ -41,9 +29,12 @@ pub fn carriers<H: Host>(
 ) -> Result<Vec<ItemId>, AllocError>
     ensures { IfOk result (λ v. v.items ≡ flat_map (carried (H.Host.meaning host.now) name) containers.now) }
 {
-    let mut found = Vec::new(heap);
-    for container in containers {
-        add_carriers(&mut found, host, *container, name)?;
-    }
-    Ok(found)
+    containers
+        .iter()
+        .flat_map(|container| {
+            (0..MOST_ENTRIES)
+                .map_while(move |place| named_at(host, *container, place))
+                .filter_map(move |(id, called)| (called == name).then_some(id))
+        })
+        .collect(heap)
 }

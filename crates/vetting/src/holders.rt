@@ -5,14 +5,14 @@ ghost use Rattle.vetting.specs.Containers.{same_container, container_in, held};
 ghost use Rattle.vetting.specs.Firsts.{firsts, Collected};
 ghost use Rattle.std.proofs.Common.{rules};
 
-use super::noting::note;
-use host::{ContainerKind, Numbered};
+use super::firsts::firsts;
+use host::{ContainerKind, QuestionKind};
 use roll::Same;
 use rows::Row;
 use std::alloc::{AllocError, Global};
 
 // An impl or a trait, by its number.
-#[derive(Clone, Copy)]
+#[derive(Clone, Copy, PartialEq, Eq, Hash)]
 pub struct Container {
     pub kind: ContainerKind,
     pub number: u32,
@@ -29,24 +29,21 @@ impl Same for Container {
     ghost transitive = { Prim.search rules };
 
     fn is_same(&self, other: &Container) -> bool {
-        self.kind.number() == other.kind.number() && self.number == other.number
+        *self == *other
     }
 }
-
-// The question that rows of items answer.
-const ITEMS: u32 = 4;
 
 // The container of an item's row; none in another row, or where the kind is unknown.
 fn container_in(row: &Row) -> Option<Container>
     ensures { result ≡ container_in row.now }
 {
-    if row.question != ITEMS {
+    let Some(QuestionKind::Item) = row.question() else {
         return None;
-    }
-    let kind = ContainerKind::from_number(row.a1)?;
-    Some(Container {
+    };
+    let kind = ContainerKind::try_from(row.key.a1);
+    kind.ok().map(|kind| Container {
         kind,
-        number: row.a2,
+        number: row.key.a2,
     })
 }
 
@@ -55,9 +52,5 @@ pub fn containers(heap: Global, rows: &[Row]) -> Result<Vec<Container>, AllocErr
     ensures order { IfOk result (λ v. v.items ≡ firsts same_container (flat_map held rows.now)) }
     ensures spoken { IfOk result (λ v. Collected held rows.now v.items) }
 {
-    let mut found = Vec::new(heap);
-    for row in rows {
-        note(&mut found, container_in(row))?;
-    }
-    Ok(found)
+    firsts(heap, rows.iter().filter_map(container_in))
 }

@@ -3,9 +3,9 @@
 #![tactic(auto)]
 
 mod carrying;
+mod firsts;
 mod holders;
 mod listing;
-mod noting;
 mod speaking;
 #[cfg(test)]
 mod tests;

@@ -3,14 +3,12 @@ ghost use Rattle.std.specs.Prelude.{◌≡◌, IfOk};
 ghost use Rattle.host.specs.Meaning.{listed};
 ghost use Rattle.vetting.specs.Lists.{asked_of};
 
-use host::Host;
+use host::{Host, MOST_ENTRIES};
 use std::alloc::{AllocError, Global};
 
-// How long a list may be.
-pub(crate) const LONGEST: u32 = 64;
-
-// A list question whose answers are numbers, but for its place.
-#[derive(Clone, Copy, PartialEq)]
+// A list question whose answers are numbers, but for its place. It is a value and no closure: a function that is open to all
+// may not ask that a closure can be called.
+#[derive(Clone, Copy, PartialEq, Eq)]
 pub enum NumberList {
     Own { ty: u32 },
     Stray { ty: u32 },
@@ -34,12 +32,7 @@ fn asked<H: Host>(host: &H, list: NumberList, place: u32) -> Option<u32>
 pub fn entries<H: Host>(heap: Global, host: &H, list: NumberList) -> Result<Vec<u32>, AllocError>
     ensures { IfOk result (λ v. v.items ≡ listed (asked_of (H.Host.meaning host.now) list)) }
 {
-    let mut found = Vec::new(heap);
-    for place in 0..LONGEST {
-        let Some(n) = asked(host, list, place) else {
-            return Ok(found);
-        };
-        found.push(n)?;
-    }
-    Ok(found)
+    (0..MOST_ENTRIES)
+        .map_while(|place| asked(host, list, place))
+        .collect(heap)
 }

@@ -6,19 +6,7 @@ use std::test::Fail;
 use tabled::TabledHost;
 
 fn row(question: u32, a1: u32, a2: u32, a3: u32, r1: u32) -> Row {
-    Row {
-        question,
-        a1,
-        a2,
-        a3,
-        a4: 0,
-        a5: 0,
-        a6: 0,
-        a7: 0,
-        r1,
-        r2: 0,
-        r3: 0,
-    }
+    Row::from([question, a1, a2, a3, 0, 0, 0, 0, r1, 0, 0])
 }
 
 #[test]
@@ -61,14 +49,14 @@ fn a_name_in_an_impl_and_a_trait(rt: HostRuntime) -> Result<(), Fail> {
         row(4, 1, 9, 0, 60),
         row(4, 1, 9, 1, 50),
     ]?;
-    let held = containers(heap, rows.as_slice())?;
+    let held = containers(heap, &rows)?;
     assert!(rt; held.len() == 2);
     let Ok(table) = TabledHost::open(rows) else {
         return Err(Fail::new("the rows are lawful"));
     };
     let own = entries(heap, &table, NumberList::Own { ty: 1 })?;
     assert_eq!(rt; own.as_slice(), [7].as_slice());
-    let found = carriers(heap, &table, held.as_slice(), 50)?;
+    let found = carriers(heap, &table, &held, 50)?;
     assert!(rt; found.len() == 2);
     assert!(rt;
         found[0].is_same(&ItemId {

@@ -3,4 +3,4 @@ use Rattle.rows.proofs.Naming.{sort_read}
 use Rattle.rows.proofs.answers.sort_named.Goals as goal
 
 pub returns : goal.returns
-returns c = c.unwrap_or.ensures ∙ sort_read c.args.n c.from_number.result c.from_number.ensures
+returns c = c.unwrap_or.ensures ∙ sort_read c.args.n c.try_from.result c.try_from.ensures

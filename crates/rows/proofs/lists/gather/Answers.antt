@@ -3,7 +3,7 @@ use Rattle.std.proofs.lemmas.List.{take_more}
 use Rattle.rows.specs.Rows.{key_of}
 use Rattle.rows.specs.Lists.{at, Noted, Gathered}
 use Rattle.rows.proofs.Answering.{no_row}
-use Rattle.rows.proofs.Gathering.{gathered_none, gathered_more, gathered_all, gathered_plain, gathered_default, passed_over}
+use Rattle.rows.proofs.Gathering.{gathered_none, gathered_more, gathered_all, gathered_default, passed_over}
 use Rattle.rows.proofs.lists.gather.Goals as goal
 use Rattle.rows.proofs.lists.gather.Goals.{then-row-first, else-row-first}
 
@@ -23,16 +23,9 @@ loop-row-preserved c =
     ] in
     subst (λ rs. Gathered l rs c.if-row-first.slots) (sym (take_more rows i no_row c.loop-row-test.true)) (gathered_more l (take i rows) row c.loop-row.slots c.if-row-first.slots c.loop-row.invariant noted)
 
-pub returns-in-Supers : goal.returns-in-Supers
-returns-in-Supers c =
+pub returns-in-Supers-clause-gathered : goal.returns-in-Supers-clause-gathered
+returns-in-Supers-clause-gathered c =
     let rows = c.args.rows.now in
     let l = c.args.listing in
     let all = gathered_all l rows c.loop-row.row-index c.loop-row.slots c.loop-row-test.false c.loop-row.invariant in
-    record { asked = c.at.ensures.asked; gathered = gathered_default l c.in-Supers.tr c.itself.result rows c.loop-row.slots c.note-in-Supers.new.slots c.in-Supers.is c.itself.ensures all c.note-in-Supers.ensures }
-
-pub returns-in_default : goal.returns-in_default
-returns-in_default c =
-    let rows = c.args.rows.now in
-    let l = c.args.listing in
-    let all = gathered_all l rows c.loop-row.row-index c.loop-row.slots c.loop-row-test.false c.loop-row.invariant in
-    record { asked = c.at.ensures.asked; gathered = gathered_plain l rows c.loop-row.slots c.in_default.not-Supers all }
+    gathered_default l c.in-Supers.tr c.itself.result rows c.loop-row.slots c.note-in-Supers.new.slots c.in-Supers.is c.itself.ensures all c.note-in-Supers.ensures

@@ -1,21 +1,7 @@
-use Rattle.std.proofs.Common.{◌+◌, sym, ap, ◌∙◌, add-zero, arith}
-use Rattle.std.proofs.lemmas.List.{length-set, length-replicate}
-use Rattle.script.specs.Grammar.{texts, numbers_from}
-use Rattle.script.proofs.Reading.{failed, few, many, counted, none_read, loop_step, loop_stop, loop_end}
+use Rattle.std.proofs.Common.{sym, ◌∙◌, arith}
+use Rattle.std.proofs.lemmas.List.{length-set}
+use Rattle.script.proofs.Reading.{failed, counted, loop_step, loop_stop, loop_end}
 use Rattle.script.proofs.words.numbers.Goals as goal
-
-pub returns-then-words : goal.returns-then-words
-returns-then-words g c = sym (few g.row.N c.args.words.now _ (omega arith))
-
-pub returns-then-words-2 : goal.returns-then-words-2
-returns-then-words-2 g c = sym (many g.row.N c.args.words.now _ (omega arith))
-
-pub loop-i-init : goal.loop-i-init
-loop-i-init g c = (
-  length-replicate g.row.N 0,
-  none_read (numbers_from (c.args.first + 0) (texts c.args.words.now)) ∙
-      ap (λ p. numbers_from p (texts c.args.words.now)) (add-zero c.args.first),
-)
 
 pub loop-i-preserved : goal.loop-i-preserved
 loop-i-preserved g c = (

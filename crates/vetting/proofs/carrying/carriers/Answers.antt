@@ -1,20 +1,12 @@
-use Rattle.std.proofs.Common.{vec_items}
-use Rattle.host.specs.declared.forms.ContainerKind.TheVariants.{Impl}
+use Rattle.std.proofs.Common.{rules}
+use Rattle.std.proofs.lemmas.Iterator.{items_from_collect, YieldsList-from_slice}
+use Rattle.std.proofs.lemmas.Iterator.Adapters.{YieldsList-from_flat_map}
 use Rattle.vetting.specs.Carriers.{carried}
-use Rattle.vetting.specs.declared.holders.Container.{Container}
-use Rattle.vetting.proofs.Keeping.{said_more, said_all}
+use Rattle.vetting.proofs.Called.{carried_gives}
 use Rattle.vetting.proofs.carrying.carriers.Goals as goal
-
--- stands for a container past the end
-abbrev no_container : Container
-no_container = record { kind = Impl; number = 0 }
-
-pub loop-container-preserved : goal.loop-container-preserved
-loop-container-preserved g c =
-    let said = carried (g.H.Host.meaning c.args.host.now) c.args.name in
-    said_more said c.args.containers.now c.loop-container.container-index no_container (vec_items c.loop-container.found) (vec_items c.add_carriers.new.found) c.loop-container-test.true c.loop-container.invariant c.in_ok-add_carriers.ensures
 
 pub returns : goal.returns
 returns g c =
-    let said = carried (g.H.Host.meaning c.args.host.now) c.args.name in
-    said_all said c.args.containers.now c.loop-container.container-index (vec_items c.loop-container.found) c.loop-container-test.false c.loop-container.invariant
+    let m = g.H.Host.meaning c.args.host.now in
+    let new = c.flat_map.ensures in
+    items_from_collect c.collect.result c.collect.ensures.ran (YieldsList-from_flat_map _ _ _ (λ y. y) (carried m c.args.name) _ (λ x u f k. (search rules, λ j e. carried_gives _ _ m x.now c.args.name u j e (λ p r h a. (search rules, search rules)) (λ i r h a. (search rules, search rules)) (search rules))) (YieldsList-from_slice c.args.containers.now cc) new.closure new.front new.back new.done)

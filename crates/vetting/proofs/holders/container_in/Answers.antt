@@ -1,15 +1,12 @@
-use Rattle.std.proofs.Common.{sym, ap, ◌∙◌}
-use Rattle.std.specs.Option.{option_map}
-use Rattle.vetting.specs.Containers.{numbered}
-use Rattle.vetting.proofs.Equals.{container_read}
+use Rattle.std.proofs.Common.{rules}
+use Rattle.vetting.proofs.Equals.{of_an_item, of_no_item}
 use Rattle.vetting.proofs.holders.container_in.Goals as goal
 
-pub returns-in_err-kind : goal.returns-in_err-kind
-returns-in_err-kind c =
-    let row = c.args.row.now in
-    c.from_residual.ensures ∙ sym (ap (option_map (numbered row)) c.in_err-kind.was) ∙ container_read row c.from_number.result c.if-row-ne-ITEMS.false c.from_number.ensures
+pub returns-in_default : goal.returns-in_default
+returns-in_default c = of_no_item c.args.row.now c.question.result c.question.ensures (λ e. search rules)
+
+pub returns-in_default-2 : goal.returns-in_default-2
+returns-in_default-2 c = of_no_item c.args.row.now c.question.result c.question.ensures (λ e. search rules)
 
 pub returns : goal.returns
-returns c =
-    let row = c.args.row.now in
-    sym (ap (option_map (numbered row)) c.in_ok-kind.was) ∙ container_read row c.from_number.result c.if-row-ne-ITEMS.false c.from_number.ensures
+returns c = let e = of_an_item c.args.row.now c.question.result c.try_from-kind.result c.question.ensures (search rules) c.try_from-kind.ensures in search rules

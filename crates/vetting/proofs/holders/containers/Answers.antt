@@ -1,20 +1,13 @@
-use Rattle.std.proofs.Common.{None, vec_items, refl, ap, ◌∙◌, append-nil}
-use Rattle.std.specs.Option.{option_to_list}
-use Rattle.rows.proofs.Answering.{no_row}
-use Rattle.vetting.specs.Containers.{same_container, held}
+use Rattle.std.proofs.Common.{rules}
+use Rattle.std.proofs.lemmas.Iterator.{YieldsList-from_slice}
+use Rattle.std.proofs.lemmas.Iterator.Consumers.{YieldsList-from_filter_map}
+use Rattle.vetting.specs.Containers.{container_in, same_container, held}
 use Rattle.vetting.proofs.Equals.{exact_containers}
-use Rattle.vetting.proofs.Keeping.{collected, noted_more, noted_all}
+use Rattle.vetting.proofs.Giving.{gathered, some_as_list}
 use Rattle.vetting.proofs.holders.containers.Goals as goal
-
-pub loop-row-preserved : goal.loop-row-preserved
-loop-row-preserved c =
-    let one = c.container_in.result in
-    let after = vec_items c.note.new.found in
-    noted_more same_container exact_containers held c.args.rows.now c.loop-row.row-index no_row one None (vec_items c.loop-row.found) after after c.loop-row-test.true (append-nil (option_to_list one) ∙ ap option_to_list c.container_in.ensures) c.loop-row.invariant c.in_ok-note.ensures refl
 
 pub returns : goal.returns
 returns c =
     let rows = c.args.rows.now in
-    let found = vec_items c.loop-row.found in
-    let order = noted_all same_container held rows c.loop-row.row-index found c.loop-row-test.false c.loop-row.invariant in
-    record { order = order; spoken = collected same_container exact_containers held rows found order }
+    let both = gathered _ same_container (λ x y. search rules) exact_containers held rows c.firsts.result (YieldsList-from_filter_map _ container_in (YieldsList-from_slice rows cc) c.filter_map.ensures.closure (λ x r f k. (search rules, search rules))) (some_as_list container_in rows) c.firsts.ensures in
+    record { order = both.0; spoken = both.1 }

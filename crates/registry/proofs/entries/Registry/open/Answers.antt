@@ -1,5 +1,5 @@
 use Rattle.std.proofs.Common.{rules}
 use Rattle.registry.proofs.entries.Registry.open.Goals as goal
 
-pub returns : goal.returns
-returns c = (c.in-Some.kind, c.in-Ok-Ok.host, search rules, search rules, search rules)
+pub returns-in-Ok : goal.returns-in-Ok
+returns-in-Ok c = (c.in_ok-host.host.now.kind, c.in-Ok.opened, search rules, search rules, search rules)
