@@ -17,7 +17,7 @@ use Rattle.method_resolution.specs.Assembly.{Overfills}
 use Rattle.std.proofs.lemmas.List.Concat.{flat_map-append}
 use Rattle.method_resolution.proofs.OneMore.{met_before, once_more, overfills_more, listed_next}
 use Rattle.assembly.specs.declared.lists.CandidateLists.{CandidateLists}
-use Rattle.assembly.specs.Growth.{Holds, Grows}
+use Rattle.assembly.specs.Growth.{offer_of, Holds, Grows}
 
 -- what comes behind leaves the front
 once_front : (xs ys : List Offer) → (zs : List Offer) × (once (xs ++ ys) ≡ once xs ++ zs)
@@ -30,10 +30,6 @@ once_front xs (y ∷ ys) =
 
 pub refused_stays : (q : Question) (xs ys : List Offer) (e : Refusal) → Overfills q (once xs) e → Overfills q (once (xs ++ ys)) e
 refused_stays q xs ys e o = let r = once_front xs ys in subst (λ os. Overfills q os e) (sym r.1) (overfills_more q (once xs) r.0 e o)
-
--- the offer of a container, found in some way
-abbrev pub offer_of : CandidateKind → ℕ → Offer
-offer_of kind container = record { container = container; kind = kind }
 
 -- the first of these offers that is too many refuses
 abbrev pub Refuses : Question → CandidateLists → List Offer → Refusal → Type 0
@@ -102,6 +98,10 @@ module _ (q : Question) (step : CandidateStep) (before : CandidateLists) (ty : T
 
   pub object_refused : (x : Refusal) → Refuses q before (offers_as (ObjectCandidate step.self_ty) (supers_of q.meaning ty.definition)) x → Refuses q before (step_offers q.meaning step) x
   object_refused x g = subst (λ os. Refuses q before os x) all_offers (grows_refused q before _ _ x g)
+
+  pub object_grown : (mid : CandidateLists) → Grows q before (offers_as (ObjectCandidate step.self_ty) (supers_of q.meaning ty.definition)) (Ok tt) mid
+      → (r : Result (Unit {0}) Refusal) (after : CandidateLists) → Grows q mid (own_offers q.meaning step ++ stray_offers q.meaning step) r after → Grows q before (step_offers q.meaning step) r after
+  object_grown mid g r after k = subst (λ os. Grows q before os r after) all_offers (grows_then q before _ _ mid g r after k)
 
 -- the offers of one step more
 module _ (q : Question) (before : CandidateLists) (i : ℕ) (d : CandidateStep) (in-range : i < length q.steps) where

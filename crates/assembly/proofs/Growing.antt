@@ -1,17 +1,18 @@
 -- One more candidate, and one more offer, on the lists.
-use Rattle.std.proofs.Common.{◌≡◌, ℕ, ◌<◌, ◌≤◌, true, false, cond, List, [], ◌∷◌, ◌++◌, length, filter, sym, refl, ap, ◌∙◌, append-nil, arith, length-append, length-drop}
+use Rattle.std.proofs.Common.{◌≡◌, ℕ, ◌<◌, ◌≤◌, true, false, cond, List, [], ◌∷◌, ◌++◌, length, filter, sym, refl, ap, ◌∙◌, subst, append-nil, arith, length-append, length-drop}
+use Rattle.std.specs.Option.{option_map}
 use Rattle.std.specs.Result.{is_ok}
 use Rattle.roll.specs.Rolls.{contents, beyond, Pushed}
 use Rattle.roll.specs.declared.shape.Full.{Full}
 use Rattle.roll.specs.declared.shape.Roll.{Roll}
-use Rattle.method_resolution.specs.Types.{ContainerKind, Err, None, Ok, Refusal, Result, Some}
+use Rattle.method_resolution.specs.Types.{ContainerKind, ItemId, Err, None, Ok, Option, Refusal, Result, Some}
 use Rattle.method_resolution.specs.declared.Candidate.{Candidate}
 use Rattle.method_resolution.specs.Questions.{Question}
 use Rattle.method_resolution.specs.Offers.{Offer}
 use Rattle.method_resolution.specs.Assembly.{offered_place, container_kind, candidate_at, candidate_of, goes_on, candidates_on}
 use Rattle.method_resolution.proofs.OneMore.{candidates_more}
 use Rattle.assembly.specs.declared.lists.CandidateLists.{CandidateLists}
-use Rattle.assembly.specs.Growth.{room, Filed, ListsHold, Added}
+use Rattle.assembly.specs.Growth.{room, item_at, Filed, ListsHold, Added}
 
 -- what a push that succeeds leaves of the memory
 same_room : {X : Type 0} (before after : Roll X) (x : X) (r : Result (Unit {0}) Full) → is_ok r ≡ true → Pushed before x r after → room after ≡ room before
@@ -32,21 +33,29 @@ pub full : {X : Type 0} (before after : Roll X) (x : X) (r : Result (Unit {0}) F
 full before after x (Ok u) e h = cc
 full before after x (Err f) e h = let none = h.0 in omega arith
 
+-- the candidate of an offer, from the item that the program answers
+module _ (o : Offer) where
+  made_at : (i : ItemId) (r : Option ℕ) → Some i ≡ option_map (item_at (container_kind o.kind) o.container) r → candidate_at o r ≡ record { item = i; kind = o.kind } ∷ []
+  made_at i None e = cc
+  made_at i (Some p) e = let h : item_at (container_kind o.kind) o.container p ≡ i = cc in ap (λ (j : ItemId). record { item = j; kind = o.kind } ∷ []) h
+
+  unmade_at : (r : Option ℕ) → None ≡ option_map (item_at (container_kind o.kind) o.container) r → candidate_at o r ≡ []
+  unmade_at None e = refl
+  unmade_at (Some p) e = cc
+
 -- the candidate of an offer whose container has the item
-pub made : (q : Question) (o : Offer) (k : ContainerKind) (p : ℕ) → k ≡ container_kind o.kind → Some p ≡ offered_place q k o.container
-    → candidate_of q o ≡ record { item = record { kind = k; container = o.container; place = p }; kind = o.kind } ∷ []
-made q o k p e f =
-    ap (candidate_at o) (ap (λ j. offered_place q j o.container) (sym e) ∙ sym f)
-    ∙ ap (λ (j : ContainerKind). record { item = record { kind = j; container = o.container; place = p }; kind = o.kind } ∷ []) (sym e)
+pub made : (q : Question) (o : Offer) (k : ContainerKind) (i : ItemId) → k ≡ container_kind o.kind → Some i ≡ option_map (item_at k o.container) (offered_place q k o.container)
+    → candidate_of q o ≡ record { item = i; kind = o.kind } ∷ []
+made q o k i e f = made_at o i _ (subst (λ j. Some i ≡ option_map (item_at j o.container) (offered_place q j o.container)) e f)
 
 module _ (q : Question) (os : List Offer) (o : Offer) where
   -- a container without the item adds nothing
-  pub added_nothing : (ls : CandidateLists) (k : ContainerKind) → k ≡ container_kind o.kind → None ≡ offered_place q k o.container → ListsHold q os ls → Added q os o ls.impl_dups (Ok tt) ls
+  pub added_nothing : (ls : CandidateLists) (k : ContainerKind) → k ≡ container_kind o.kind → None ≡ option_map (item_at k o.container) (offered_place q k o.container) → ListsHold q os ls → Added q os o ls.impl_dups (Ok tt) ls
   added_nothing ls k e f h = (
     record {
       items = λ l.
           h.items l
-          ∙ sym (candidates_more q l os o ∙ ap (λ r. candidates_on q l os ++ filter (goes_on q l) (candidate_at o r)) (ap (λ j. offered_place q j o.container) (sym e) ∙ sym f)
+          ∙ sym (candidates_more q l os o ∙ ap (λ c. candidates_on q l os ++ filter (goes_on q l) c) (unmade_at o _ (subst (λ j. None ≡ option_map (item_at j o.container) (offered_place q j o.container)) e f))
           ∙ append-nil (candidates_on q l os));
       rooms = h.rooms;
     },

@@ -1,11 +1,17 @@
 -- The search for a container's item, place by place.
 use Rattle.std.specs.Bool.{then_some}
+use Rattle.std.specs.Option.{option_map}
 use Rattle.std.proofs.Common.{◌≡◌, ℕ, ◌+◌, ◌-◌, ◌<◌, Bool, true, false, cond, sym, refl, ap, ◌∙◌}
 use Rattle.host.specs.Meaning.{listed_from, joined}
-use Rattle.method_resolution.specs.Types.{ContainerKind, Item, Mode, None, Option, Some}
+use Rattle.method_resolution.specs.Types.{ContainerKind, Item, ItemId, Mode, None, Option, Some}
 use Rattle.method_resolution.specs.Questions.{Question}
 use Rattle.method_resolution.specs.Assembly.{has_name, serves, first_named, offered_place}
 use Rattle.method_resolution.proofs.OneMore.{listed_next}
+
+-- an answer of the place, said of the item there
+pub served_item : (f : ℕ → ItemId) (b : Bool) (p : ℕ) → then_some b (f p) ≡ option_map f (then_some b p)
+served_item f true p = refl
+served_item f false p = refl
 
 pub start : (q : Question) (k : ContainerKind) (c : ℕ) → offered_place q k c ≡ first_named q.name q.mode 0 (listed_from (q.meaning.item k c) 0 64)
 unfolding offered_place

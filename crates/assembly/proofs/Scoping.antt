@@ -11,10 +11,9 @@ use Rattle.method_resolution.specs.Assembly.{candidates_on, impls_met, Fits, Ove
 use Rattle.method_resolution.proofs.OneMore.{overfills_more}
 use Rattle.method_resolution.proofs.Overfilling.{fits_any_scope, fits_at_steps, fits_not_overfills}
 use Rattle.assembly.specs.declared.lists.CandidateLists.{CandidateLists}
-use Rattle.assembly.specs.Growth.{ListsHold, Holds, Grows}
+use Rattle.assembly.specs.Growth.{ListsHold, offer_of, Holds, Grows}
 use Rattle.assembly.specs.Assembled.{by_steps, ScopeHolds, Fresh, Assembled}
 use Rattle.assembly.proofs.Offering.{new_trait}
-use Rattle.assembly.proofs.Fronts.{offer_of}
 
 module _ (q : Question) where
   once_traits : (os : List Offer) (ts : Scope) → once (os ++ trait_offers ts) ≡ once os ++ trait_offers ts

@@ -2,8 +2,9 @@
 use Rattle.std.specs.Prelude.{◌≡◌, ℕ, ◌+◌, ◌<◌, ◌≤◌, true, List, [], ◌∷◌, ◌++◌, map, length, filter}
 use Rattle.roll.specs.Rolls.{contents, beyond}
 use Rattle.roll.specs.declared.shape.Roll.{Roll}
-use Rattle.method_resolution.specs.Types.{Err, Ok, Refusal, Result, TooManyCandidates}
+use Rattle.method_resolution.specs.Types.{ContainerKind, ItemId, Err, Ok, Refusal, Result, TooManyCandidates}
 use Rattle.method_resolution.specs.declared.Candidate.{Candidate}
+use Rattle.method_resolution.specs.declared.CandidateKind.{CandidateKind}
 use Rattle.method_resolution.specs.declared.CandidateKind.TheVariants.{InherentImplCandidate}
 use Rattle.method_resolution.specs.Questions.{Question}
 use Rattle.method_resolution.specs.Offers.{Offer, once, is_impl}
@@ -41,8 +42,15 @@ abbrev pub Added : Question → List Offer → Offer → Roll ℕ → Result (Un
 Added q os o met (Ok u) after = ListsHold q (os ++ o ∷ []) after × (after.impl_dups ≡ met)
 Added q os o met (Err e) after = (e ≡ TooManyCandidates) × ((l : ListName) × (64 < length (candidates_on q l (os ++ o ∷ []))))
 
+abbrev pub item_at : ContainerKind → ℕ → ℕ → ItemId
+item_at kind container place = record { kind = kind; container = container; place = place }
+
+-- the offer of a container, found in some way
+abbrev pub offer_of : CandidateKind → ℕ → Offer
+offer_of kind container = record { container = container; kind = kind }
+
 abbrev pub impl_offer : ℕ → ℕ → Offer
-impl_offer i steps = record { container = i; kind = InherentImplCandidate steps }
+impl_offer i steps = offer_of (InherentImplCandidate steps) i
 
 abbrev pub impl_numbers : List Offer → List ℕ
 impl_numbers os = map (λ (o : Offer). o.container) (filter (λ (o : Offer). is_impl o.kind) os)

@@ -8,7 +8,8 @@ use host::{Host, Refusal};
 use method_resolution::{Candidate, CandidateKind};
 use roll::Roll;
 
-// The candidates found so far, in order, and the impls met on the way.
+// The candidates found so far, in order, and the impls met on the way. Beside the context and not in it, so that no contract
+// has to say that the context stays.
 #[derive(Drop)]
 pub struct CandidateLists<'a> {
     pub inherent_candidates: Roll<'a, Candidate>,

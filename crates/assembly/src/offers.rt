@@ -1,16 +1,16 @@
 // What the steps of a receiver offer, container by container.
 ghost use Rattle.std.specs.Prelude.{ℕ, Option, List, [], ◌∷◌, ◌++◌, flat_map};
-ghost use Rattle.host.specs.Meaning.{listed, supers_of};
-ghost use Rattle.method_resolution.specs.declared.CandidateKind.TheVariants.{ObjectCandidate};
+ghost use Rattle.host.specs.Meaning.{listed};
+ghost use Rattle.method_resolution.specs.declared.CandidateKind.TheVariants.{InherentImplCandidate};
 ghost use Rattle.method_resolution.specs.Offers.{Offer, offers_as, own_offers, stray_offers, bound_offers, step_offers};
 ghost use Rattle.assembly.specs.Contexts.{question};
-ghost use Rattle.assembly.specs.Growth.{ListsHold, Added, impl_offer, Grows};
+ghost use Rattle.assembly.specs.Growth.{ListsHold, Added, offer_of, impl_offer, Grows};
 ghost use Rattle.assembly.specs.Listing.{AnswersAs};
 
 use super::context::ProbeContext;
 use super::lists::CandidateLists;
 use host::{ContainerKind, Form, Host, MOST_ENTRIES, Refusal};
-use method_resolution::{Candidate, CandidateId, CandidateKind, CandidateStep};
+use method_resolution::{Candidate, CandidateKind, CandidateStep};
 
 impl<H: Host> ProbeContext<'_, H> {
     // The container's item, if it offers one, goes on its list.
@@ -20,16 +20,11 @@ impl<H: Host> ProbeContext<'_, H> {
         container: u32,
         lists: &mut CandidateLists<'_>,
     ) -> Result<(), Refusal>
-        ensures { (os : List Offer) → ListsHold (question H.meaning self.now) os lists.old → Added (question H.meaning self.now) os (record { container = container; kind = kind }) lists.old.impl_dups result lists.new }
+        ensures { (os : List Offer) → ListsHold (question H.meaning self.now) os lists.old → Added (question H.meaning self.now) os (offer_of kind container) lists.old.impl_dups result lists.new }
     {
         let holder = ContainerKind::from(kind);
-        let Some(place) = self.impl_or_trait_item(holder, container) else {
+        let Some(item) = self.impl_or_trait_item(holder, container) else {
             return Ok(());
-        };
-        let item = CandidateId {
-            kind: holder,
-            container,
-            place,
         };
         self.push_candidate(Candidate { item, kind }, lists)
     }
@@ -61,7 +56,7 @@ impl<H: Host> ProbeContext<'_, H> {
         container: u32,
         lists: &mut CandidateLists<'_>,
     ) -> Result<(), Refusal>
-        ensures { Grows (question H.meaning self.now) lists.old (record { container = container; kind = kind } ∷ []) result lists.new }
+        ensures { Grows (question H.meaning self.now) lists.old (offer_of kind container ∷ []) result lists.new }
     {
         match kind {
             CandidateKind::InherentImplCandidate { receiver_steps } => {
@@ -71,7 +66,9 @@ impl<H: Host> ProbeContext<'_, H> {
         }
     }
 
-    // All containers on a list of the host, in order.
+    // All containers on a list of the host, in order. A `map_while` over the places was tried, but not proved: with the
+    // closure borrowed the check refuses it before any goal, and with the closure moved in five holes stayed open, the
+    // invariant over the adapter's state among them.
     fn assemble_listed<F: Fn(u32) -> Option<u32>>(
         &self,
         kind: CandidateKind,
@@ -90,90 +87,23 @@ impl<H: Host> ProbeContext<'_, H> {
         Ok(())
     }
 
-    // The principal trait of an object, and the traits above it.
-    fn assemble_candidates_from_object(
-        &self,
-        principal: u32,
-        step: CandidateStep,
-        lists: &mut CandidateLists<'_>,
-    ) -> Result<(), Refusal>
-        ensures { Grows (question H.meaning self.now) lists.old (offers_as (ObjectCandidate step.self_ty) (supers_of (H.meaning self.now.host.now) principal)) result lists.new }
-    {
-        let kind = CandidateKind::ObjectCandidate {
-            origin: step.self_ty,
-        };
-        self.assemble_listed(kind, |place| self.host.supers(principal, place), lists)
-    }
-
-    // The bounds of a type parameter.
-    fn assemble_candidates_from_param(
+    // The impls on one of the lists that a step asks for.
+    fn assemble_listed_impls<F: Fn(u32) -> Option<u32>>(
         &self,
         step: CandidateStep,
+        offered_at: F,
         lists: &mut CandidateLists<'_>,
     ) -> Result<(), Refusal>
-        ensures { Grows (question H.meaning self.now) lists.old (bound_offers (H.meaning self.now.host.now) step) result lists.new }
-    {
-        let kind = CandidateKind::WhereClauseCandidate {
-            origin: step.self_ty,
-        };
-        self.assemble_listed(kind, |place| self.host.bound(step.self_ty, place), lists)
-    }
-
-    // The impls that stand with the type.
-    fn assemble_own_impls(
-        &self,
-        step: CandidateStep,
-        lists: &mut CandidateLists<'_>,
-    ) -> Result<(), Refusal>
-        ensures { Grows (question H.meaning self.now) lists.old (own_offers (H.meaning self.now.host.now) step) result lists.new }
+        requires { F.IsAlwaysCallable offered_at }
+        ensures { (f : ℕ → Option ℕ) → AnswersAs (F.post offered_at) f → Grows (question H.meaning self.now) lists.old (offers_as (InherentImplCandidate step.autoderefs) (listed f)) result lists.new }
     {
         let kind = CandidateKind::InherentImplCandidate {
             receiver_steps: step.autoderefs,
         };
-        self.assemble_listed(kind, |place| self.host.own(step.self_ty, place), lists)
+        self.assemble_listed(kind, offered_at, lists)
     }
 
-    // The incoherent impls.
-    fn assemble_stray_impls(
-        &self,
-        step: CandidateStep,
-        lists: &mut CandidateLists<'_>,
-    ) -> Result<(), Refusal>
-        ensures { Grows (question H.meaning self.now) lists.old (stray_offers (H.meaning self.now.host.now) step) result lists.new }
-    {
-        let kind = CandidateKind::InherentImplCandidate {
-            receiver_steps: step.autoderefs,
-        };
-        self.assemble_listed(kind, |place| self.host.stray(step.self_ty, place), lists)
-    }
-
-    // What the form of the step's type makes it offer.
-    pub(crate) fn assemble_probe(
-        &self,
-        step: CandidateStep,
-        lists: &mut CandidateLists<'_>,
-    ) -> Result<(), Refusal>
-        ensures { Grows (question H.meaning self.now) lists.old (step_offers (H.meaning self.now.host.now) step) result lists.new }
-    {
-        let ty = self.host.form(step.self_ty);
-        match ty.form {
-            Form::Dynamic => {
-                self.assemble_candidates_from_object(ty.definition, step, lists)?;
-                self.assemble_impls(step, lists)
-            }
-            Form::Adt | Form::Foreign => self.assemble_impls(step, lists),
-            Form::Param => self.assemble_candidates_from_param(step, lists),
-            Form::Plain
-            | Form::Array
-            | Form::RawPtrMut
-            | Form::Ref
-            | Form::RefMut
-            | Form::RawPtrConst => { self.assemble_stray_impls(step, lists) }
-            Form::Other => Ok(()),
-        }
-    }
-
-    // The type's own impls, then its incoherent ones.
+    // The impls that stand with the type, then its incoherent ones.
     fn assemble_impls(
         &self,
         step: CandidateStep,
@@ -181,8 +111,42 @@ impl<H: Host> ProbeContext<'_, H> {
     ) -> Result<(), Refusal>
         ensures { Grows (question H.meaning self.now) lists.old (own_offers (H.meaning self.now.host.now) step ++ stray_offers (H.meaning self.now.host.now) step) result lists.new }
     {
-        self.assemble_own_impls(step, lists)?;
-        self.assemble_stray_impls(step, lists)
+        self.assemble_listed_impls(step, |place| self.host.own(step.self_ty, place), lists)?;
+        self.assemble_listed_impls(step, |place| self.host.stray(step.self_ty, place), lists)
+    }
+
+    // What the form of the step's type makes it offer: an object its principal trait and the traits above it, a type
+    // parameter its bounds, the others impls.
+    pub(crate) fn assemble_probe(
+        &self,
+        step: CandidateStep,
+        lists: &mut CandidateLists<'_>,
+    ) -> Result<(), Refusal>
+        ensures { Grows (question H.meaning self.now) lists.old (step_offers (H.meaning self.now.host.now) step) result lists.new }
+    {
+        let origin = step.self_ty;
+        let ty = self.host.form(origin);
+        match ty.form {
+            Form::Dynamic => {
+                let kind = CandidateKind::ObjectCandidate { origin };
+                self.assemble_listed(kind, |place| self.host.supers(ty.definition, place), lists)?;
+                self.assemble_impls(step, lists)
+            }
+            Form::Adt | Form::Foreign => self.assemble_impls(step, lists),
+            Form::Param => {
+                let kind = CandidateKind::WhereClauseCandidate { origin };
+                self.assemble_listed(kind, |place| self.host.bound(origin, place), lists)
+            }
+            Form::Plain
+            | Form::Array
+            | Form::RawPtrMut
+            | Form::Ref
+            | Form::RefMut
+            | Form::RawPtrConst => {
+                self.assemble_listed_impls(step, |place| self.host.stray(origin, place), lists)
+            }
+            Form::Other => Ok(()),
+        }
     }
 
     // What all steps offer, admitted or not.

@@ -9,15 +9,15 @@ use runner::play;
 use scenario::vet_harbour;
 use std::env;
 use std::fs::File;
-use std::io::{BufRead, BufReader};
+use std::io::BufReader;
 
 // How many lines of the script were in error.
 fn play_path(rt: &HostRuntime, path: &str) -> anyhow::Result<usize> {
     let heap = rt.alloc();
     if path == "-" {
-        play(rt, BufReader::new(heap, rt.stdin())?.lines(heap))
+        play(rt, BufReader::new(heap, rt.stdin())?)
     } else {
-        play(rt, BufReader::new(heap, File::open(rt, path)?)?.lines(heap))
+        play(rt, BufReader::new(heap, File::open(rt, path)?)?)
     }
 }
 

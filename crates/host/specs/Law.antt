@@ -37,6 +37,10 @@ pub record SupersLawful (m : Meaning) (t : ℕ) : Type 0 where
 abbrev pub SupertraitLaw : Meaning → Type 0
 SupertraitLaw m = (t : ℕ) → t < 2 ^ 32 → SupersLawful m t
 
+-- It fails at one of those traits.
+abbrev pub SupertraitLawFails : Meaning → Type 0
+SupertraitLawFails m = (t : ℕ) × (t < 2 ^ 32) × (SupersLawful m t → ⊥)
+
 -- What a host shows of its meaning: the list law, the supertrait law, and that a question which nobody can ask, since a
 -- number of it has more than 32 bits, stands as at the empty host, so that hosts of equal meanings have one meaning.
 pub record Lawful (m : Meaning) : Type 0 where

@@ -1,5 +1,5 @@
 -- The numbers by which rows and scripts write the closed sets.
-use Rattle.std.specs.Prelude.{◌≡◌, ℕ, Ok, Result, MatchResult}
+use Rattle.std.specs.Prelude.{◌≡◌, ℕ, ◌==◌, List, [], ◌∷◌, find, Ok, Option, Result, MatchResult}
 use Rattle.host.specs.declared.forms.ContainerKind.{ContainerKind}
 use Rattle.host.specs.declared.forms.ContainerKind.TheVariants as container
 use Rattle.host.specs.declared.forms.CandidateClass.{CandidateClass}
@@ -71,6 +71,33 @@ question_number kind.Visible = 7
 question_number kind.Skips = 8
 question_number kind.Applies = 9
 question_number kind.Source = 10
+
+-- The members of the closed sets, in the order of their numbers.
+
+-- the member that has the number n
+abbrev pub member : {X : Type 0} → (X → ℕ) → List X → ℕ → Option X
+member code xs n = find (λ x. code x == n) xs
+
+abbrev pub forms : List Form
+forms = form.Other ∷ form.Dynamic ∷ form.Adt ∷ form.Foreign ∷ form.Param ∷ form.Plain ∷ form.Array ∷ form.RawPtrMut ∷ form.Ref ∷ form.RefMut ∷ form.RawPtrConst ∷ []
+
+abbrev pub container_kinds : List ContainerKind
+container_kinds = container.Impl ∷ container.Trait ∷ []
+
+abbrev pub sorts : List Sort
+sorts = sort.Function ∷ sort.Const ∷ sort.Alias ∷ []
+
+abbrev pub candidate_classes : List CandidateClass
+candidate_classes = class.Impl ∷ class.Object ∷ class.Trait ∷ class.Bound ∷ []
+
+abbrev pub wraps : List Wrap
+wraps = wrap.Bare ∷ wrap.Ref ∷ wrap.RefMut ∷ wrap.ConstPtr ∷ []
+
+abbrev pub modes : List Mode
+modes = mode.MethodCall ∷ mode.Path ∷ []
+
+abbrev pub question_kinds : List QuestionKind
+question_kinds = kind.Form ∷ kind.Own ∷ kind.Stray ∷ kind.Item ∷ kind.Bound ∷ kind.Supers ∷ kind.Visible ∷ kind.Skips ∷ kind.Applies ∷ kind.Source ∷ []
 
 -- the number that a refusal returns
 abbrev pub refusal_number : Refusal → ℕ

@@ -73,7 +73,7 @@ pub enum QuestionKind {
     Source,
 }
 
-// What a host says of a type.
+// What a host says of a type. A definition and the mark stand beside every form, as rows write them.
 #[derive(Clone, Copy, PartialEq, Eq)]
 pub struct TypeForm {
     pub form: Form,
@@ -97,7 +97,8 @@ pub struct ItemId {
     pub place: u32,
 }
 
-// A candidate tried on a type under a wrap: how it was found, where its item stands, and the type that offers it.
+// A candidate tried on a type under a wrap: how it was found, where its item stands, and the type that offers it, which by
+// rule is 0 where none does.
 #[derive(Clone, Copy, PartialEq, Eq)]
 pub struct Trial {
     pub class: CandidateClass,

@@ -4,7 +4,8 @@ ghost use Rattle.std.specs.Prelude.{◌≡◌};
 use super::Host;
 use super::forms::{Item, ItemId, TraitItem, Trial, TypeForm};
 
-// A host behind a shared reference, with the meaning of the host behind it.
+// A host behind a shared reference, with the meaning of the host behind it. A struct, and no impl for every `&H`, so that the
+// code shows where a host is shared.
 #[derive(Clone, Copy)]
 pub struct Lent<'a, H>(pub &'a H);
 

@@ -64,7 +64,7 @@ pub trait Host {
     fn visible(&self, item: ItemId) -> bool
         ensures { result ≡ (meaning self.now).visible item.kind item.container item.place };
 
-    // 8: whether older editions pass over a trait's methods on arrays, and on boxed slices.
+    // 8: whether older editions pass over a trait's methods on arrays, and on boxed slices; both together, by rule.
     fn skips(&self, tr: u32) -> (bool, bool)
         ensures { result ≡ (meaning self.now).skips tr };
 

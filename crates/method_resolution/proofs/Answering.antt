@@ -11,7 +11,7 @@ use Rattle.method_resolution.specs.Assembly as assembly
 use Rattle.method_resolution.specs.Assembly.{ListName, inherent, extension, private, candidates_on, impls_met, Fits, Overfull, Overfills}
 use Rattle.method_resolution.specs.Places.{applies, applying}
 use Rattle.method_resolution.specs.Judgement as judgement
-use Rattle.method_resolution.specs.Judgement.{Decision, nothing, pick, ambiguity, Judged, shadowed_by}
+use Rattle.method_resolution.specs.Judgement.{pick, ambiguity, Judged, shadowed_by}
 use Rattle.host.specs.Identity.{same_item}
 use Rattle.method_resolution.specs.Verdicts as verdicts
 use Rattle.method_resolution.specs.Verdicts.{Turn, turns, SomeApply, Undecided, Finding, Finds, Answer, Accepted, FewAutoderefs, put_in_front, told}

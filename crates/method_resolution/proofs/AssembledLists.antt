@@ -13,7 +13,7 @@ use Rattle.method_resolution.specs.Assembly.{ListName, inherent, extension, priv
 use Rattle.method_resolution.specs.Places.{applies, applying}
 use Rattle.method_resolution.proofs.ListFacts.{all_append, all_filter, filter_shorter}
 
--- what the offers give, one behind another
+-- what the offers give, one behind another (for `applying_extension`)
 filter-flat_map : {X Y : Type 0} (test : Y → Bool) (f : X → List Y) (xs : List X) → filter test (flat_map f xs) ≡ flat_map (λ x. filter test (f x)) xs
 filter-flat_map test f [] = refl
 filter-flat_map test f (x ∷ xs) = filter-append test (f x) (flat_map f xs) ∙ ap (λ l. filter test (f x) ++ l) (filter-flat_map test f xs)
@@ -100,6 +100,7 @@ module _ (q : Question) where
   pub private_from_scope : (os : List Offer) → All FromScope os → candidates_on q private os ≡ []
   private_from_scope os a = takes_nothing private FromScope (λ o h c e. ap (λ k. not (is_trait_candidate k) && not (is_visible q c)) (e ∙ h)) os a
 
+  -- What each list holds, up to `applying_extension`. Nothing cites these yet: they are for the pick, which is still to come.
   pub inherent_list : (ts : Scope) → candidates_on q inherent (offers q ts) ≡ candidates_on q inherent (inherent_offers q)
   inherent_list ts = candidates_on-append inherent (inherent_offers q) (trait_offers ts) ∙ ap (λ l. candidates_on q inherent (inherent_offers q) ++ l) (inherent_from_scope (trait_offers ts) (trait_offers_from_scope ts)) ∙ append-nil _
 
@@ -153,7 +154,7 @@ module _ (q : Question) where
       let h : c.item.place ≡ d.item.place = cc in
       λ i. record { kind = e i; container = f i; place = h i }
 
-  -- a trait's candidate at a place is of that trait
+  -- A trait's candidate at a place is of that trait. Nothing cites this yet: it is for the pick, which is still to come.
   pub applying_of_trait : (p : Place) (t : ℕ) → All (λ (c : Candidate). (c.item.kind ≡ Trait) × (c.item.container ≡ t)) (applying_of p t)
   applying_of_trait p t = all_filter (applies q p) _ _ (one (offered_place q Trait t))
     where

@@ -10,7 +10,7 @@ use Rattle.method_resolution.specs.Assembly.{private, candidates_on}
 use Rattle.method_resolution.specs.Places.{places, applies, applying}
 use Rattle.method_resolution.specs.Judgement.{Decision, pick, ambiguity, Judged}
 use Rattle.method_resolution.specs.Verdicts as verdicts
-use Rattle.method_resolution.specs.Verdicts.{Turn, turns, SomeApply, Decides, Undecided, Finding, Finds}
+use Rattle.method_resolution.specs.Verdicts.{Turn, Decides, Undecided, Finding, Finds}
 use Rattle.method_resolution.proofs.ListFacts.{first_once, first_not_none}
 use Rattle.method_resolution.proofs.Deciding.{by_decision}
 use Rattle.method_resolution.proofs.AssembledLists.{Offered}

@@ -7,7 +7,7 @@ use Rattle.host.specs.Law.{Lawful}
 use Rattle.host.specs.declared.forms.ContainerKind.TheVariants.{Trait}
 use Rattle.method_resolution.specs.Questions.{Question}
 use Rattle.method_resolution.specs.Judgement as judgement
-use Rattle.method_resolution.specs.Judgement.{Decision, nothing, pick, ambiguity, Judged, OfTrait, OfOneTrait, AmongSupers, HasSubtrait, pick_of, trait_pick_of, shadowed_by, source_of}
+use Rattle.method_resolution.specs.Judgement.{Decision, pick, Judged, OfTrait, OfOneTrait, AmongSupers, pick_of, trait_pick_of, shadowed_by}
 use Rattle.method_resolution.proofs.ListFacts.{all_at}
 use Rattle.method_resolution.proofs.AssembledLists.{Offered, one_item}
 

@@ -54,7 +54,7 @@ module _ {X : Type 0} (f : ℕ → Option X) (p : ℕ) (h : p < 64) where
   unfolding listed_from
   listed_next = let e : 64 - p ≡ suc (64 - (p + 1)) = omega arith in ap (listed_from f p) e
 
--- the first, behind others that are none
+-- The first, behind others that are none. Nothing cites these yet: they are for the pick, which is still to come.
 module _ {X : Type 0} (P : X → Type 0) where
   pub first_behind : (xs ys : List X) (y : X) → NoneOf P xs → First P ys y → First P (xs ++ ys) y
   first_behind [] ys y n h = h

@@ -6,10 +6,10 @@ use Rattle.method_resolution.specs.Types.{Refusal}
 use Rattle.method_resolution.specs.Questions.{Question, Scope}
 use Rattle.method_resolution.specs.Offers.{Offer, inherent_offers, trait_offers, offers}
 use Rattle.method_resolution.specs.Assembly as assembly
-use Rattle.method_resolution.specs.Assembly.{ListName, inherent, extension, private, candidates_on, impls_met, Fits, Overfull, Overfills}
+use Rattle.method_resolution.specs.Assembly.{ListName, inherent, extension, private, candidates_on, Fits, Overfull, Overfills}
 use Rattle.method_resolution.proofs.AssembledLists.{FromScope, inherent_from_step, trait_offers_from_scope, candidates_on-append, extension_from_steps, inherent_from_scope, private_from_scope, few_candidates, impls_met-append, no_impls_from_scope}
 
--- how a cut of a list lies to another
+-- How a cut of a list lies to another. `Within`, `Past`, `where_cut` and `all_left` are for `overfills_at_steps`.
 module _ {X : Type 0} where
   record Within (xs before : List X) (next : X) : Type 0 where
     rest : List X
@@ -104,7 +104,7 @@ module _ (q : Question) where
   pub fits_any_scope : (ts : Scope) → length ts ≤ 64 → Fits q (inherent_offers q) → Fits q (offers q ts)
   fits_any_scope ts few f = let h = length-offers ts in fits_with_scope (trait_offers ts) f (trait_offers_from_scope ts) (omega arith)
 
-  -- so a refusal comes from the steps
+  -- So a refusal comes from the steps. Nothing cites this yet: it is for the pick, which is still to come.
   pub overfills_at_steps : (ts : Scope) (e : Refusal) → length ts ≤ 64 → Overfills q (offers q ts) e → Overfills q (inherent_offers q) e
   overfills_at_steps ts e few o = step (where_cut (inherent_offers q) (trait_offers ts) o.before o.next o.after o.are)
     where

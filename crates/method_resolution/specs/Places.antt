@@ -1,6 +1,6 @@
 -- Where candidates are tried, and which of them apply.
-use Rattle.std.specs.Prelude.{ℕ, Bool, true, false, not, ◌&&◌, ◌||◌, List, [], ◌∷◌, map, filter, ◌==◌, flat_map}
-use Rattle.host.specs.Numbers.{form_number, wrap_number}
+use Rattle.std.specs.Prelude.{ℕ, Bool, true, false, not, ◌&&◌, ◌||◌, List, map, filter, ◌==◌, flat_map}
+use Rattle.host.specs.Numbers.{form_number, wrap_number, wraps}
 use Rattle.host.specs.declared.forms.Form.TheVariants.{Array, RawPtrMut}
 use Rattle.host.specs.declared.forms.Wrap.TheVariants.{Bare, Ref, RefMut, ConstPtr}
 use Rattle.host.specs.declared.forms.CandidateClass.TheVariants as class
@@ -26,9 +26,7 @@ tried q step Ref = true
 tried q step RefMut = true
 tried q step ConstPtr = not step.unsize && same_form (form_of q step) RawPtrMut
 
-abbrev pub wraps : List Wrap
-wraps = Bare ∷ Ref ∷ RefMut ∷ ConstPtr ∷ []
-
+-- a step's places, in the order of the wraps
 abbrev pub places_of : Question → CandidateStep → List Place
 places_of q step = map (λ w. record { step = step; wrap = w }) (filter (tried q step) wraps)
 

@@ -8,6 +8,7 @@ pub record Wrote {X : Type 0} (before : Roll X) (xs : List X) (after : Roll X) :
   pub on_it : contents after ≡ contents before ++ xs
   pub behind : beyond after ≡ drop (length xs) (beyond before)
 
--- so it is where the memory suffices
-abbrev pub Writes : {X : Type 0} → Roll X → List X → Roll X → Type 0
-Writes before xs after = length xs ≤ length (beyond before) → Wrote before xs after
+-- The roll keeps the memory lent to it, and has grown where that suffices.
+pub record Writes {X : Type 0} (before : Roll X) (xs : List X) (after : Roll X) : Type 0 where
+  pub lent : after.items.ghost_name ≡ before.items.ghost_name
+  pub wrote : length xs ≤ length (beyond before) → Wrote before xs after

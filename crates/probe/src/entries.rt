@@ -9,7 +9,7 @@ use super::context::ProbeAt;
 use super::writing::push_all;
 use host::{Host, TraitItem};
 use method_resolution::{Candidate, CandidateId, CandidateKind, CandidateSource, ListEntry};
-use roll::{Roll, Same};
+use roll::Roll;
 
 impl<H: Host> ProbeAt<'_, H> {
     // Where a candidate comes from: a trait candidate from the impl that the host names, if it names one.
@@ -18,11 +18,8 @@ impl<H: Host> ProbeAt<'_, H> {
     {
         let item = candidate.item;
         match candidate.kind {
-            CandidateKind::InherentImplCandidate { receiver_steps: _ } => {
-                CandidateSource::Impl(item.container)
-            }
-            CandidateKind::ObjectCandidate { origin: _ }
-            | CandidateKind::WhereClauseCandidate { origin: _ } => {
+            CandidateKind::InherentImplCandidate { .. } => { CandidateSource::Impl(item.container) }
+            CandidateKind::ObjectCandidate { .. } | CandidateKind::WhereClauseCandidate { .. } => {
                 CandidateSource::Trait(item.container)
             }
             CandidateKind::TraitCandidate => {
@@ -43,8 +40,7 @@ impl<H: Host> ProbeAt<'_, H> {
 
     // The source of each candidate, repeats kept.
     pub(crate) fn push_sources(&self, candidates: &[Candidate], entries: &mut Roll<'_, ListEntry>)
-        ensures lent { entries.new.items.ghost_name ≡ entries.old.items.ghost_name }
-        ensures writes { Writes entries.old (map (λ c. Source (source_of (question H.meaning self.now.ctx.now) self.now.place c)) candidates.now) entries.new }
+        ensures { Writes entries.old (map (λ c. Source (source_of (question H.meaning self.now.ctx.now) self.now.place c)) candidates.now) entries.new }
     {
         let sources = candidates.iter().copied().map(|candidate| ListEntry::Source(
             self.candidate_source(candidate),
@@ -53,27 +49,26 @@ impl<H: Host> ProbeAt<'_, H> {
     }
 }
 
-// Each candidate's item that differs from the one picked, repeats kept.
+// Each candidate's item that differs from the one picked, repeats kept. Two maps as in the clause: one map of both needs a
+// proof by hand, of more lines than it saves.
 pub(crate) fn push_shadowed(
     picked: CandidateId,
     candidates: &[Candidate],
     entries: &mut Roll<'_, ListEntry>,
 )
-    ensures lent { entries.new.items.ghost_name ≡ entries.old.items.ghost_name }
-    ensures writes { Writes entries.old (map Shadowed (shadowed_by picked candidates.now)) entries.new }
+    ensures { Writes entries.old (map Shadowed (shadowed_by picked candidates.now)) entries.new }
 {
     let shadowed = candidates
         .iter()
         .copied()
-        .filter(|candidate| !picked.is_same(&candidate.item))
+        .filter(|candidate| candidate.item != picked)
         .map(|candidate| candidate.item)
         .map(ListEntry::Shadowed);
     push_all(entries, shadowed);
 }
 
 pub(crate) fn push_entries(from: &[ListEntry], entries: &mut Roll<'_, ListEntry>)
-    ensures lent { entries.new.items.ghost_name ≡ entries.old.items.ghost_name }
-    ensures writes { Writes entries.old from.now entries.new }
+    ensures { Writes entries.old from.now entries.new }
 {
     push_all(entries, from.iter().copied());
 }

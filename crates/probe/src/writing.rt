@@ -1,5 +1,4 @@
 // What goes on a roll.
-ghost use Rattle.std.specs.Prelude.{◌≡◌};
 ghost use Rattle.std.specs.Iterator.{IsFinite};
 ghost use Rattle.std.specs.Iterator.Runs.{WholeRun};
 ghost use Rattle.probe.specs.Writing.{Writes};
@@ -13,8 +12,7 @@ pub(crate) fn push_all<T: Same + Drop, I: Iterator<Item = T> + Drop>(
 )
     requires can { I.can_next items }
     requires finite { IsFinite (I.remaining items) }
-    ensures lent { list.new.items.ghost_name ≡ list.old.items.ghost_name }
-    ensures writes { WholeRun I.next_gives items (λ p. Writes list.old p.items list.new) }
+    ensures { WholeRun I.next_gives items (λ p. Writes list.old p.items list.new) }
 {
     for item in items {
         let _ = list.push(item);

@@ -1,10 +1,9 @@
 -- The state of a registry, and what each call does to it.
-use Rattle.std.specs.Prelude.{◌≡◌, ℕ, ◌^◌, ◌<◌, if◌then◌else◌, ◌⊎◌, List, [], ◌∷◌, ◌++◌, is_some, Some, None, Ok, Err, vec_items, Option, Result, nat_eq, unwrap_or}
-use Rattle.std.specs.BTreeMap.{get}
-use Rattle.std.specs.Map.{update}
+use Rattle.std.specs.Prelude.{◌≡◌, ℕ, if◌then◌else◌, ◌⊎◌, List, [], ◌∷◌, ◌++◌, is_some, Some, None, Ok, Err, vec_items, Option, Result, unwrap_or, map as each}
+use Rattle.std.specs.FinMap as map
 use Rattle.std.specs.Option.{option_map, option_and_then}
 use Rattle.std.specs.Ordering.{nat_cmp}
-use Rattle.host.specs.Law.{SupersLawful, empty_host}
+use Rattle.host.specs.Law.{SupertraitLawFails, empty_host}
 use Rattle.host.specs.Meaning.{Meaning}
 use Rattle.host.specs.Questions.{answer}
 use Rattle.host.specs.declared.questions.Answer.{Answer}
@@ -18,7 +17,6 @@ use Rattle.script.specs.declared.commands.HostKind.TheVariants as kind
 use Rattle.registry.specs.AnyHosts.{any_meaning}
 use Rattle.registry.specs.declared.any.AnyHost.{AnyHost}
 use Rattle.registry.specs.declared.entries.Declared.{Declared}
-use Rattle.registry.specs.declared.entries.Registry.{Registry}
 use Rattle.registry.specs.declared.troubles.Trouble.{Trouble}
 use Rattle.registry.specs.declared.troubles.Trouble.TheVariants.{DeclaredTwice, NotDeclared, NoHostBegun, NoSuchTable, NotOpen, Memory}
 
@@ -30,33 +28,34 @@ pub record Known : Type 0 where
 
 -- what is known of each identifier, and the one that was begun last
 pub record State : Type 0 where
-  pub hosts : ℕ → Option Known
+  pub hosts : map.FinMap nat_cmp Known
   pub begun : Option ℕ
 
 abbrev pub known : Declared → Known
 known d = record { kind = d.kind; rows = vec_items d.rows; opened = d.opened }
 
-abbrev pub state : Registry → State
-state r = record { hosts = λ id. option_map known (get nat_cmp r.hosts id); begun = r.begun }
+-- what is known of the hosts with these identifiers
+abbrev pub known_each : List (ℕ × Declared) → map.FinMap nat_cmp Known
+known_each es = map.from_entries (each (λ e. (e.0, known e.1)) es)
 
 abbrev pub no_hosts : State
-no_hosts = record { hosts = λ _. None; begun = None }
+no_hosts = record { hosts = map.empty; begun = None }
 
 -- of which kind the host with that identifier is
 abbrev pub kind_of : State → ℕ → Option HostKind
-kind_of s id = option_map (λ k. k.kind) (s.hosts id)
+kind_of s id = option_map (λ k. k.kind) (map.get s.hosts id)
 
 -- the rows given for it, in their order
 abbrev pub rows_of : State → ℕ → List Row
-rows_of s id = unwrap_or (option_map (λ k. k.rows) (s.hosts id)) []
+rows_of s id = unwrap_or (option_map (λ k. k.rows) (map.get s.hosts id)) []
 
 -- the host that was opened for it last
 abbrev pub opened_last : State → ℕ → Option AnyHost
-opened_last s id = option_and_then (λ k. k.opened) (s.hosts id)
+opened_last s id = option_and_then (λ k. k.opened) (map.get s.hosts id)
 
 -- the host begun last
 abbrev pub begun_last : State → Option Known
-begun_last s = option_and_then s.hosts s.begun
+begun_last s = option_and_then (map.get s.hosts) s.begun
 
 -- An answer told by what is wrong, if anything is; only where nothing is, memory may be wanting.
 abbrev pub Told : {X : Type 0} → Option Trouble → Result X Trouble → Type 0
@@ -68,7 +67,7 @@ abbrev pub declare_wrong : State → ℕ → Option Trouble
 declare_wrong s id = if is_some (kind_of s id) then Some DeclaredTwice else None
 
 abbrev pub with_host : State → ℕ → HostKind → State
-with_host s id k = record { hosts = update nat_eq s.hosts id (Some (record { kind = k; rows = []; opened = None })); begun = Some id }
+with_host s id k = record { hosts = map.insert s.hosts id (record { kind = k; rows = []; opened = None }); begun = Some id }
 
 -- A row goes to the host begun last, if that is a tabled one.
 abbrev pub kind_wrong : HostKind → Option Trouble
@@ -79,9 +78,9 @@ abbrev pub table_wrong : Option Known → Option Trouble
 table_wrong None = Some NoHostBegun
 table_wrong (Some k) = kind_wrong k.kind
 
--- the state where what is known of one host is changed
+-- the state where what is known of one host is changed; of a host that is not declared nothing is
 abbrev pub with_change : State → ℕ → (Known → Known) → State
-with_change s id f = record s { hosts = update nat_eq s.hosts id (option_map f (s.hosts id)) }
+with_change s id f = record s { hosts = unwrap_or (option_map (λ k. map.insert s.hosts id (f k)) (map.get s.hosts id)) s.hosts }
 
 abbrev pub with_row_of : State → Option ℕ → Row → State
 with_row_of s None row = s
@@ -98,7 +97,7 @@ meaning_of kind.Empty rs = empty_host
 -- a host of that kind over these rows, or a refusal where the supertrait law fails at some trait
 abbrev pub Fresh : HostKind → List Row → Result AnyHost Refusal → Type 0
 Fresh k rs (Ok h) = any_meaning h ≡ meaning_of k rs
-Fresh k rs (Err e) = (k ≡ kind.Tabled) × (e ≡ UnlawfulSupertraits) × ((t : ℕ) × (t < 2 ^ 32) × (SupersLawful (tabled rs) t → ⊥))
+Fresh k rs (Err e) = (k ≡ kind.Tabled) × (e ≡ UnlawfulSupertraits) × SupertraitLawFails (tabled rs)
 
 -- only a host that was declared can be opened
 abbrev pub open_wrong : State → ℕ → Option Trouble

@@ -1,6 +1,6 @@
 // What a script does with its hosts.
-ghost use Rattle.std.specs.Prelude.{◌≡◌, is_ok, IfOk, if◌then◌else◌};
-ghost use Rattle.registry.specs.Registries.{state, no_hosts, kind_of, begun_last, opened_last, Told, declare_wrong, with_host, table_wrong, with_row, Fresh, Opens, asked_of};
+ghost use Rattle.std.specs.Prelude.{◌≡◌, is_ok, if◌then◌else◌};
+ghost use Rattle.registry.specs.Registries.{no_hosts, kind_of, begun_last, opened_last, Told, declare_wrong, with_host, table_wrong, with_row, Fresh, Opens, asked_of};
 
 use super::any::AnyHost;
 use super::entries::{Declared, Registry};
@@ -8,30 +8,24 @@ use super::troubles::Trouble;
 use host::{Answer, EmptyHost, Question, Refusal, ask};
 use rows::Row;
 use script::HostKind;
-use std::alloc::{AllocError, Global};
+use std::alloc::Global;
 use std::collections::BTreeMap;
 use tabled::TabledHost;
 
 // A host of that kind over these rows.
-fn fresh_host(
-    heap: Global,
-    kind: HostKind,
-    rows: &[Row],
-) -> Result<Result<AnyHost, Refusal>, AllocError>
-    ensures { IfOk result (Fresh kind rows.now) }
+fn fresh_host(kind: HostKind, rows: Vec<Row>) -> Result<AnyHost, Refusal>
+    ensures { Fresh kind rows.items result }
 {
     match kind {
-        HostKind::Empty => Ok(Ok(AnyHost::Empty(EmptyHost))),
-        HostKind::Tabled => {
-            let rows = Vec::from_slice(heap, rows)?;
-            Ok(TabledHost::open(rows).map(AnyHost::Tabled))
-        }
+        HostKind::Tabled => TabledHost::open(rows).map(AnyHost::Tabled),
+        HostKind::Empty => Ok(AnyHost::Empty(EmptyHost)),
     }
 }
 
 impl Registry {
+    // No host declared yet; the heap is kept for the rows of hosts to come.
     pub fn new(heap: Global) -> Registry
-        ensures { state result ≡ no_hosts }
+        ensures { result ≡ no_hosts }
     {
         Registry {
             heap,
@@ -42,8 +36,8 @@ impl Registry {
 
     // Begins a host; its tables follow.
     pub fn declare(&mut self, id: u32, kind: HostKind) -> Result<(), Trouble>
-        ensures told { Told (declare_wrong (state self.old) id) result }
-        ensures after { state self.new ≡ (if is_ok result then with_host (state self.old) id kind else state self.old) }
+        ensures told { Told (declare_wrong self.old id) result }
+        ensures after { self.new ≡ (if is_ok result then with_host self.old id kind else self.old) }
     {
         if self.hosts.contains_key(&id) {
             return Err(Trouble::DeclaredTwice);
@@ -60,8 +54,8 @@ impl Registry {
 
     // One row more for the host begun last.
     pub fn add_row(&mut self, row: Row) -> Result<(), Trouble>
-        ensures told { Told (table_wrong (begun_last (state self.old))) result }
-        ensures after { state self.new ≡ (if is_ok result then with_row (state self.old) row else state self.old) }
+        ensures told { Told (table_wrong (begun_last self.old)) result }
+        ensures after { self.new ≡ (if is_ok result then with_row self.old row else self.old) }
     {
         let id = self.begun.ok_or(Trouble::NoHostBegun)?;
         let host = self.hosts.get_mut(&id).ok_or(Trouble::NoHostBegun)?;
@@ -74,10 +68,11 @@ impl Registry {
     // Opens a host anew from its tables as they stand; a refusal leaves the host opened before. A result in a result: a
     // refusal is what the line is answered, a trouble that it has no answer.
     pub fn open(&mut self, id: u32) -> Result<Result<(), Refusal>, Trouble>
-        ensures { Opens (state self.old) id result (state self.new) }
+        ensures { Opens self.old id result self.new }
     {
         let host = self.hosts.get_mut(&id).ok_or(Trouble::NotDeclared)?;
-        match fresh_host(self.heap, host.kind, &host.rows)? {
+        let rows = Vec::from_slice(self.heap, &host.rows)?;
+        match fresh_host(host.kind, rows) {
             Ok(opened) => {
                 host.opened = Some(opened);
                 Ok(Ok(()))
@@ -88,7 +83,7 @@ impl Registry {
 
     // Asks the host that was opened last.
     pub fn ask(&self, id: u32, question: Question) -> Result<Answer, Trouble>
-        ensures { result ≡ asked_of (kind_of (state self.now) id) (opened_last (state self.now) id) question }
+        ensures { result ≡ asked_of (kind_of self.now id) (opened_last self.now id) question }
     {
         let host = self.hosts.get(&id).ok_or(Trouble::NotDeclared)?;
         let open = host.opened.as_ref().ok_or(Trouble::NotOpen)?;

@@ -1,5 +1,5 @@
 // A roll is a list over the caller's memory, for every element type with an equality that is an equivalence.
-// It appends in order, says no when it is full, tells whether an equal element is on it, is read by place,
+// It appends in order, refuses when it is full, tells whether an equal element is on it, is read by place,
 // and at its end gives back the count. It allocates nothing.
 #![tactic(auto)]
 

@@ -55,7 +55,7 @@ impl<'a, T: Same + Drop> Roll<'a, T> {
     pub fn as_slice(&self) -> &[T]
         ensures { result.now ≡ contents self.now }
     {
-        &self.items[0..self.len]
+        &self.items[..self.len]
     }
 
     // Ends the roll and gives the count back: the memory holds the contents, and behind them what it held.

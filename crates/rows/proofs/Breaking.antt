@@ -1,6 +1,7 @@
 -- What the search for a breach tells of the supertrait law.
 use Rattle.std.proofs.Common.{◌≡◌, ℕ, zero, suc, MatchOption, arith, ◌+◌, ◌<◌, Bool, true, false, MatchBool, cond, not, ◌&&◌, eqb, ◌⊎◌, List, [], ◌∷◌, length, get_or, option_map, is_some, Some, None, Option, sym, refl, ap, ◌∙◌, subst, inl, inr}
 use Rattle.std.proofs.lemmas.Bool.{cases_Bool, eq-eqb, eqb-true, or_cases, or_left, or_right, and_parts, and_from, not-true, not_from_false, both_ways}
+use Rattle.std.proofs.lemmas.Option.{none-some, same_Some}
 use Rattle.roll.specs.Equality.{on}
 use Rattle.host.specs.Meaning.{Meaning, ◌∈◌, supers_of, listed_from, joined}
 use Rattle.host.specs.Law.{SupersLawful}
@@ -66,9 +67,6 @@ first_cases {X} {Y} f (x ∷ xs) = step (f x) refl (first_cases f xs)
         let all : option_or (f x) (first_some f xs) ≡ first_some f xs = ap (λ o. option_or o (first_some f xs)) e in
         inr (ap is_some all ∙ k.0, record { where' = k.1.where'; among = inr k.1.among; is = k.1.is ∙ sym all })
 
-never_some : {X : Type 0} {A : Type 0} (x : X) → Some x ≡ None → A
-never_some x e = absurd (both_ways true (ap is_some e) refl)
-
 module _ (m : Meaning) (t : ℕ) where
   -- whether u is another trait that has t above it
   abbrev other : ℕ → Bool
@@ -92,7 +90,7 @@ module _ (m : Meaning) (t : ℕ) where
     where
       step : (on eqb (supers_of m t) v ≡ true) ⊎ (on eqb (supers_of m t) v ≡ false) → v ∈ supers_of m t
       step (inl k) = in_from_on (supers_of m t) v k
-      step (inr k) = never_some (Missing u v) (sym (ap (λ b. cond b None (Some (Missing u v))) k) ∙ e)
+      step (inr k) = absurd (none-some (Missing u v) (sym e ∙ ap (λ b. cond b None (Some (Missing u v))) k))
 
   pub missing_tells : (u v : ℕ) (r : Option Breach) → u ∈ supers_of m t → v ∈ supers_of m u → missing (supers_of m t) u v ≡ r → is_some r ≡ true → Tells m t r
   missing_tells u v r a b e s = step (cases_Bool (on eqb (supers_of m t) v))
@@ -167,10 +165,7 @@ module _ (m : Meaning) (t : ℕ) where
 -- a breach is one
 pub breach_breaks : (m : Meaning) (t : ℕ) (r : Option Breach) → Tells m t r → is_some r ≡ true → SupersLawful m t → ⊥
 breach_breaks m t None h e l = both_ways true (sym e) refl
-breach_breaks m t (Some (NotItself x)) h e l = h.1 (same (sym h.0 ∙ l.itself))
-  where
-    same : Some x ≡ Some t → x ≡ t
-    same q = cc
+breach_breaks m t (Some (NotItself x)) h e l = h.1 (same_Some x t (sym h.0 ∙ l.itself))
 breach_breaks m t (Some (Missing u v)) h e l = h.2 (l.closed u v h.0 h.1)
 breach_breaks m t (Some (Mutual u)) h e l = h.2 (l.one u h.0 h.1)
 

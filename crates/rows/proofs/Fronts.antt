@@ -6,6 +6,7 @@ use Rattle.std.specs.Iterator.Adapters.{map_while_source, map_while_callee, map_
 use Rattle.std.specs.declared.iter.MapWhile.{MapWhile}
 use Rattle.std.proofs.lemmas.Iterator.{YieldsList}
 use Rattle.std.proofs.lemmas.Iterator.Consumers.{YieldsList-end}
+use Rattle.std.proofs.lemmas.Option.{none-some, same_Some}
 use denote.Param.Members.{Mut}
 use Rattle.host.specs.Meaning.{listed_from, joined}
 
@@ -21,12 +22,6 @@ listed-fronts f (o ∷ os) p h =
     let rest : listed_from f (p + 1) (length os) ≡ fronts os = listed-fronts f os (p + 1) (λ k b. h (suc k) (omega arith) ∙ ap f (omega arith)) in
     ap (λ x. joined x (listed_from f (p + 1) (length os))) here ∙ ap (joined o) rest
 
-never : {X A : Type 0} (x : X) → Some x ≡ None → A
-never x e = let z : ◌≡◌ {A = ℕ} 0 1 = cc in absurd (omega arith)
-
-same : {X : Type 0} (x y : X) → Some x ≡ Some y → x ≡ y
-same x y e = cc
-
 module _ {S A F X : Type 0} (steps : S → Option A → S → Type 0) (v : A → Option X) (g : Mut F (A × Unit {0}) (Option X)) (f : F) (gives : (x : A) (o : Option X) (q : F) → Called g f (x, tt) o q → (q ≡ f) × (o ≡ v x)) where
   called : (s t : MapWhile S F) (y : A) (r : Option X) → map_while_callee s ≡ f → Called g (map_while_callee s) (y, tt) r (map_while_callee t) → (map_while_callee t ≡ f) × (r ≡ v y)
   called s t y r a c = gives y r (map_while_callee t) (subst (λ w. Called g w (y, tt) r (map_while_callee t)) a c)
@@ -35,25 +30,25 @@ module _ {S A F X : Type 0} (steps : S → Option A → S → Type 0) (v : A →
   yields [] s a e = λ x t p. step x t p.0 p.1 p.2
     where
       step : (x : X) (t : MapWhile S F) (o : Option A) → steps (map_while_source s) o (map_while_source t) → MatchOption o ((Some x ≡ None) × (map_while_callee t ≡ map_while_callee s)) (λ y. Called g (map_while_callee s) (y, tt) (Some x) (map_while_callee t)) → ⊥
-      step x t None p c = never x c.0
+      step x t None p c = none-some x (sym c.0)
       step x t (Some y) p c = e y (map_while_source t) p
   yields (None ∷ os) s a e = λ x t p. step x t p.0 p.1 p.2
     where
       step : (x : X) (t : MapWhile S F) (o : Option A) → steps (map_while_source s) o (map_while_source t) → MatchOption o ((Some x ≡ None) × (map_while_callee t ≡ map_while_callee s)) (λ y. Called g (map_while_callee s) (y, tt) (Some x) (map_while_callee t)) → ⊥
-      step x t None p c = never x c.0
-      step x t (Some y) p c = never x ((called s t y (Some x) a c).1 ∙ (e.1 y (map_while_source t) p).0)
+      step x t None p c = none-some x (sym c.0)
+      step x t (Some y) p c = none-some x (sym ((called s t y (Some x) a c).1 ∙ (e.1 y (map_while_source t) p).0))
   yields (Some z ∷ os) s a e = (λ t p. ends t p.0 p.1 p.2, λ x t p. goes x t (λ b q. yields os t b q) p.0 p.1 p.2)
     where
       ends : (t : MapWhile S F) (o : Option A) → steps (map_while_source s) o (map_while_source t) → MatchOption o ((◌≡◌ {A = Option X} None None) × (map_while_callee t ≡ map_while_callee s)) (λ y. Called g (map_while_callee s) (y, tt) None (map_while_callee t)) → ⊥
       ends t None p c = e.0 (map_while_source t) p
-      ends t (Some y) p c = never z (sym ((called s t y None a c).1 ∙ (e.1 y (map_while_source t) p).0))
+      ends t (Some y) p c = none-some z ((called s t y None a c).1 ∙ (e.1 y (map_while_source t) p).0)
 
       goes : (x : X) (t : MapWhile S F) (rest : map_while_callee t ≡ f → AlwaysYields steps v (map_while_source t) os → AlwaysYields (map_while_steps steps g) (λ x. x) t (fronts os)) (o : Option A) → steps (map_while_source s) o (map_while_source t) → MatchOption o ((Some x ≡ None) × (map_while_callee t ≡ map_while_callee s)) (λ y. Called g (map_while_callee s) (y, tt) (Some x) (map_while_callee t)) → (x ≡ z) × AlwaysYields (map_while_steps steps g) (λ x. x) t (fronts os)
-      goes x t rest None p c = never x c.0
+      goes x t rest None p c = absurd (none-some x (sym c.0))
       goes x t rest (Some y) p c =
           let call = called s t y (Some x) a c in
           let here = e.1 y (map_while_source t) p in
-          (same x z (call.1 ∙ here.0), rest call.0 here.1)
+          (same_Some x z (call.1 ∙ here.0), rest call.0 here.1)
 
 -- `map_while` with a closure that hands on its item gives what stands before the first `None`
 pub YieldsList-from_map_while : {S A F X : Type 0} {steps : S → Option A → S → Type 0} {v : A → Option X} {s : MapWhile S F} {os : List (Option X)} (g : Mut F (A × Unit {0}) (Option X)) {f : F} → YieldsList steps v (map_while_source s) os → map_while_callee s ≡ f → ((x : A) (o : Option X) (q : F) → Called g f (x, tt) o q → (q ≡ f) × (o ≡ v x)) → YieldsList (map_while_steps steps g) (λ x. x) s (fronts os)

@@ -2,7 +2,7 @@
 use Rattle.std.proofs.Common.{◌≡◌, ℕ, zero, suc, ◌+◌, ◌^◌, ◌<◌, ◌≤◌, Bool, true, false, MatchBool, not, cond, ◌&&◌, eqb, ltb, ◌⊎◌, List, [], ◌∷◌, ◌++◌, map, length, get_or, is_some, Some, None, Option, sym, refl, ap, ◌∙◌, subst, inl, inr, arith}
 use Rattle.std.specs.Option.{option_or}
 use Rattle.std.specs.List.{AllWithin, HoldsAt, slice_get}
-use Rattle.std.proofs.lemmas.Option.{slice_get_past}
+use Rattle.std.proofs.lemmas.Option.{none-some, slice_get_past}
 use Rattle.std.proofs.lemmas.Bool.{cases_Bool, cases_lt, eq-eqb, eqb-true, ne_eqb, le-ltb, and_parts, and_from, and_left, and_right, both_ways}
 use Rattle.host.specs.Meaning.{supers_of, listed, listed_from, joined}
 use Rattle.host.specs.Questions.{answer, askable, small}
@@ -23,9 +23,6 @@ use Rattle.rows.proofs.ListFacts.{list_ends, listed_is}
 use Rattle.rows.specs.Breaches.{Tells, breach_of, Broken, Unbroken}
 use Rattle.rows.specs.declared.laws.Breach.{Breach}
 use Rattle.rows.proofs.Breaking.{alone_lawful, breach_tells, breach_breaks, breach_none}
-
-never : {A : Type 0} {r : Row} → None ≡ Some r → A
-never e = let z : ◌≡◌ {A = ℕ} 0 1 = cc in absurd (omega arith)
 
 -- a trait's supers are the answers of its list's rows
 pub supers_are : (rs : List Row) (t : ℕ) → supers_of (tabled rs) t ≡ map (λ r. r.r1) (entries rs (list.Supers t))
@@ -76,7 +73,7 @@ unspoken_lawful rs t u =
 
 -- what holds of all rows holds of the one that answers, and that one has the key
 found_row : (P : Row → Type 0) (rs : List Row) (k : Key) (r : Row) → AllWithin P rs 0 (length rs) → first_row rs k ≡ Some r → P r × (fits r k ≡ true)
-found_row P [] k r a e = never e
+found_row P [] k r a e = absurd (none-some _ e)
 found_row P (x ∷ rs) k r a e = step (fits x k) refl (found_row P rs k r (λ i d l h. a (suc i) d (omega arith) (omega arith))) e
   where
     step : (b : Bool) → fits x k ≡ b → (first_row rs k ≡ Some r → P r × (fits r k ≡ true)) → cond b (Some x) (first_row rs k) ≡ Some r → P r × (fits r k ≡ true)
@@ -88,7 +85,7 @@ spoken : (rs : List Row) (t p : ℕ) (r : Row) → AllWithin (Unbroken (tabled r
 spoken rs t p r a l e = step (askable (asks.Supers t p)) e
   where
     step : (b : Bool) → first_row (cond b rs []) (key_of (asks.Supers t p)) ≡ Some r → SupersLawful (tabled rs) t
-    step false e = never e
+    step false e = absurd (none-some _ e)
     step true e =
         let found = found_row (Unbroken (tabled rs)) rs (key_of (asks.Supers t p)) r a e in
         let question = and_parts (eqb r.key.question 6) _ found.1 in

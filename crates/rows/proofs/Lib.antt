@@ -2,7 +2,6 @@ pub mod Answering
 pub mod Fronts
 pub mod Gathering
 pub mod Questions
-pub mod Naming
 pub mod ListFacts
 pub mod Breaking
 pub mod Lawfulness

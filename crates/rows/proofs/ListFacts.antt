@@ -1,18 +1,15 @@
 -- A list asked by place.
-use Rattle.std.proofs.Common.{◌≡◌, ℕ, zero, suc, ◌+◌, ◌≤◌, List, [], ◌∷◌, map, length, drop, Some, None, sym, refl, ap, ◌∙◌, arith}
+use Rattle.std.proofs.Common.{◌≡◌, ℕ, zero, suc, ◌+◌, ◌≤◌, List, [], ◌∷◌, map, length, drop, None, sym, refl, ap, ◌∙◌, arith}
 use Rattle.std.specs.Option.{option_map}
 use Rattle.std.specs.List.{slice_get}
 use Rattle.std.proofs.lemmas.List.{drop_all}
-use Rattle.std.proofs.lemmas.Option.{slice_get_past}
+use Rattle.std.proofs.lemmas.Option.{none-some, slice_get_past}
 use Rattle.host.specs.Law.{Ends}
 use Rattle.host.specs.Meaning.{listed, listed_from, joined}
 
 ended : {X Y : Type 0} (g : X → Y) (xs : List X) (p : ℕ) → option_map g (slice_get xs p) ≡ None → length xs ≤ p
 ended g [] p e = omega arith
-ended {X} {Y} g (x ∷ xs) zero e = absurd (never e)
-  where
-    never : Some (g x) ≡ None → ⊥
-    never e = let z : ◌≡◌ {A = ℕ} 0 1 = cc in omega arith
+ended g (x ∷ xs) zero e = absurd (none-some (g x) (sym e))
 ended g (x ∷ xs) (suc p) e = let h = ended g xs p e in omega arith
 
 past : {X Y : Type 0} (g : X → Y) (xs : List X) (p : ℕ) → length xs ≤ p → option_map g (slice_get xs p) ≡ None

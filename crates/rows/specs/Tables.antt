@@ -1,13 +1,14 @@
 -- What a table of rows means.
-use Rattle.std.specs.Prelude.{ℕ, Bool, false, not, List, [], ◌∷◌, Some, None, Option, ◌==◌, slice_index_or}
-use Rattle.std.specs.Option.{option_map}
+use Rattle.std.specs.Prelude.{ℕ, Bool, false, not, List, Some, None, Option, ◌==◌}
+use Rattle.std.specs.Option.{option_map, unwrap_or}
 use Rattle.std.specs.List.{slice_get}
 use Rattle.host.specs.Meaning.{Meaning}
+use Rattle.host.specs.Numbers.{member, form_number, forms, sort_number, sorts}
 use Rattle.host.specs.declared.forms.Form.{Form}
-use Rattle.host.specs.declared.forms.Form.TheVariants.{Other, Dynamic, Adt, Foreign, Param, Plain, Array, RawPtrMut, Ref, RefMut, RawPtrConst}
+use Rattle.host.specs.declared.forms.Form.TheVariants.{Other}
 use Rattle.host.specs.declared.forms.Item.{Item}
 use Rattle.host.specs.declared.forms.Sort.{Sort}
-use Rattle.host.specs.declared.forms.Sort.TheVariants.{Function, Const, Alias}
+use Rattle.host.specs.declared.forms.Sort.TheVariants.{Alias}
 use Rattle.host.specs.declared.forms.TypeForm.{TypeForm}
 use Rattle.host.specs.declared.questions.Question.TheVariants as asks
 use Rattle.rows.specs.declared.lists.Listing.TheVariants as list
@@ -15,21 +16,13 @@ use Rattle.rows.specs.declared.rows.Row.{Row}
 use Rattle.rows.specs.Rows.{row_for}
 use Rattle.rows.specs.Lists.{entries}
 
--- forms by number, from 0 on
-abbrev pub forms : List Form
-forms = Other ∷ Dynamic ∷ Adt ∷ Foreign ∷ Param ∷ Plain ∷ Array ∷ RawPtrMut ∷ Ref ∷ RefMut ∷ RawPtrConst ∷ []
-
 -- an unknown number reads as other
 abbrev pub form_named : ℕ → Form
-form_named n = slice_index_or forms n Other
-
--- sorts by number, from 0 on
-abbrev pub sorts : List Sort
-sorts = Function ∷ Const ∷ Alias ∷ []
+form_named n = unwrap_or (member form_number forms n) Other
 
 -- an unknown number reads as an alias
 abbrev pub sort_named : ℕ → Sort
-sort_named n = slice_index_or sorts n Alias
+sort_named n = unwrap_or (member sort_number sorts n) Alias
 
 -- any number but 0 is yes
 abbrev pub mark : ℕ → Bool

@@ -5,8 +5,8 @@ ghost use Rattle.rows.specs.Tables.{form_named, sort_named, form_in, number_in, 
 use super::rows::Row;
 use host::{Form, Item, Sort, TypeForm};
 
-// A form by its number; an unknown one is `Other`. Forms and sorts have a function each: a generic one would have to be
-// told what the numbers of its set mean, and be no plainer.
+// A form by its number; an unknown one is `Other`. Forms and sorts have a function each: a generic one would leave the lemma on
+// its set's table to each caller, and be no plainer.
 fn form_named(n: u32) -> Form
     ensures { result ≡ form_named n }
 {

@@ -1,13 +1,12 @@
 // The supertrait law, checked over the rows.
-ghost use Rattle.std.specs.Prelude.{◌≡◌, ℕ, ◌^◌, ◌<◌, nat_eq, Some, IsTrue, ◌↔◌, MatchBool};
+ghost use Rattle.std.specs.Prelude.{◌≡◌, nat_eq, Some, IsTrue, ◌↔◌, MatchBool};
 ghost use Rattle.roll.specs.Equality.{on};
-ghost use Rattle.roll.specs.Rolls.{contents};
-ghost use Rattle.host.specs.Law.{SupersLawful, SupertraitLaw};
+ghost use Rattle.host.specs.Law.{SupertraitLaw, SupertraitLawFails};
 ghost use Rattle.host.specs.Meaning.{supers_of};
 ghost use Rattle.rows.specs.Breaches.{Tells, first_some, beginning, missing, entry_breach, breach_of, said, Begins, Broken, Unbroken};
 ghost use Rattle.rows.specs.Tables.{tabled};
 
-use super::lists::{Listing, gather};
+use super::lists::{Listing, PLACES, slots_of};
 use super::rows::Row;
 use host::QuestionKind;
 use roll::{Roll, holds};
@@ -52,11 +51,11 @@ struct Supers<'a> {
 
 impl<'a> Supers<'a> {
     // One pass over the rows finds them all.
-    fn gather(rows: &'a [Row], tr: u32, memory: &'a mut [u32; 64]) -> Supers<'a>
+    fn gather(rows: &'a [Row], tr: u32, memory: &'a mut [u32; PLACES]) -> Supers<'a>
         ensures rows { result.rows.now ≡ rows.now }
         ensures tr { result.tr ≡ tr }
     {
-        let slots = gather(rows, Listing::Supers { tr });
+        let slots = slots_of(rows, Listing::Supers { tr });
         let mut list = Roll::new(memory);
         // A loop of its own: a function for all that push what an iterator gives would be public, and have to ask that it ends.
         for row in slots.iter().map_while(|slot| *slot) {
@@ -97,7 +96,7 @@ impl<'a> Supers<'a> {
     fn breach_at(&self, entry: u32) -> Option<Breach>
         ensures { result ≡ entry_breach (tabled self.now.rows.now) self.now.tr self.now.list.now entry }
     {
-        let mut memory = [0; 64];
+        let mut memory = [0; PLACES];
         let above = Supers::gather(self.rows, entry, &mut memory);
         if entry != self.tr && above.has(self.tr) {
             return Some(Breach::Mutual { other: entry });
@@ -116,7 +115,7 @@ impl<'a> Supers<'a> {
     fn breach(&self) -> Option<Breach>
         ensures { result ≡ breach_of (tabled self.now.rows.now) self.now.tr }
     {
-        // Not `or_else`: a proof learns nothing there of what its closure answers.
+        // Not `or_else`: its closure would need a contract of its own, the one of `breach_below` once more.
         match self.beginning() {
             None => self.breach_below(),
             found => found,
@@ -129,18 +128,18 @@ pub fn breach_of(rows: &[Row], tr: u32) -> Option<Breach>
     ensures law { Tells (tabled rows.now) tr result }
     ensures first { result ≡ breach_of (tabled rows.now) tr }
 {
-    let mut memory = [0; 64];
+    let mut memory = [0; PLACES];
     Supers::gather(rows, tr, &mut memory).breach()
 }
 
 // The last place at which a lone row can change a trait's supers: without a row at place 0 or 1 they are the trait alone.
-const NEXT: u32 = 1;
+const LAST_LONE_PLACE: u32 = 1;
 
 // Whether a row can break the law at the trait that it speaks of.
 fn begins_supers(row: &Row) -> bool
     ensures { IsTrue result ↔ Begins row.now }
 {
-    row.question() == Some(QuestionKind::Supers) && row.key.a2 <= NEXT
+    row.question() == Some(QuestionKind::Supers) && row.key.a2 <= LAST_LONE_PLACE
 }
 
 // Whether the law breaks at the trait of a row; passes over rows at which it cannot.
@@ -152,7 +151,7 @@ fn is_broken_at(rows: &[Row], row: &Row) -> bool
 
 // Whether the law holds at every trait.
 pub fn is_lawful(rows: &[Row]) -> bool
-    ensures { MatchBool result (SupertraitLaw (tabled rows.now)) ((t : ℕ) × (t < 2 ^ 32) × (SupersLawful (tabled rows.now) t → ⊥)) }
+    ensures { MatchBool result (SupertraitLaw (tabled rows.now)) (SupertraitLawFails (tabled rows.now)) }
 {
     !rows.iter().any(|row| is_broken_at(rows, row))
 }

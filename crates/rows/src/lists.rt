@@ -4,8 +4,11 @@ ghost use Rattle.std.specs.List.{slice_get};
 ghost use Rattle.host.specs.Questions.{askable};
 ghost use Rattle.rows.specs.Lists.{at, place_of, itself, Noted, Gathered, all_rows, entries};
 
-use super::rows::{Row, key_of};
+use super::rows::{Key, Row};
 use host::{ContainerKind, ItemId, MOST_ENTRIES, Question};
+
+// How many places a list has at most.
+pub(crate) const PLACES: usize = MOST_ENTRIES as usize;
 
 // A list question but for its place. It is a value and no closure, since rows are compared with it.
 #[derive(Clone, Copy)]
@@ -52,7 +55,7 @@ fn itself(tr: u32) -> Row
     ensures { result ≡ itself tr }
 {
     Row {
-        key: key_of(Question::Supers { tr, place: 0 }),
+        key: Question::Supers { tr, place: 0 }.into(),
         r1: tr,
         r2: 0,
         r3: 0,
@@ -60,23 +63,23 @@ fn itself(tr: u32) -> Row
 }
 
 // Keeps a row at the place that it answers for, unless an earlier row stands there.
-fn note(slots: &mut [Option<Row>; 64], listing: Listing, row: &Row)
+fn note(slots: &mut [Option<Row>; PLACES], listing: Listing, row: &Row)
     ensures { Noted listing row.now slots.old slots.new }
 {
     let place = listing.place_of(row);
-    if place < MOST_ENTRIES && row.key == key_of(listing.at(place)) {
+    if place < MOST_ENTRIES && row.key == Key::from(listing.at(place)) {
         // By index: once the borrow from a slice's `get_mut` is over, a proof knows no element.
         slots[place as usize].get_or_insert(*row);
     }
 }
 
 // For each place the row that answers there, found in one pass over the rows.
-pub(crate) fn gather(rows: &[Row], listing: Listing) -> [Option<Row>; 64]
+pub(crate) fn slots_of(rows: &[Row], listing: Listing) -> [Option<Row>; PLACES]
     ensures asked { askable (at listing 0) ≡ true }
     ensures gathered { Gathered listing (all_rows rows.now listing) result }
 {
-    let first = key_of(listing.at(0));
-    let mut slots = [None; 64];
+    let first = Key::from(listing.at(0));
+    let mut slots = [None; PLACES];
     for row in rows {
         // Most rows are of other questions: pass over them before anything else is looked at.
         if row.key.question == first.question {
@@ -93,6 +96,6 @@ pub(crate) fn gather(rows: &[Row], listing: Listing) -> [Option<Row>; 64]
 pub fn entry(rows: &[Row], listing: Listing, place: u32) -> Option<Row>
     ensures { result ≡ slice_get (entries rows.now listing) place }
 {
-    let slots = gather(rows, listing);
+    let slots = slots_of(rows, listing);
     slots.iter().map_while(|slot| *slot).nth(place as usize)
 }

@@ -3,7 +3,7 @@ use super::printing::{Joined, Shown};
 use registry::{Registry, Reply, Trouble};
 use script::{Fault, parse};
 use std::alloc::{AllocError, Global};
-use std::io::{BufRead, Lines};
+use std::io::BufRead;
 use std::{fmt, io};
 
 // Why a line was not carried out: it is no command, or its command failed.
@@ -40,49 +40,33 @@ fn words_of(heap: Global, line: &str) -> Result<Vec<&str>, AllocError> {
     said.split_whitespace().collect(heap)
 }
 
-fn carry_out(registry: &mut Registry, words: &[&str]) -> Result<Reply, LineError> {
+fn carry_out(registry: &mut Registry, words: &[&str]) -> Result<Option<Reply>, LineError> {
     let command = parse(words)?;
     Ok(registry.execute(command)?)
 }
 
-// The line, and what it was answered; nothing where the answer is silence.
+// The line, and what it was answered.
 fn print_reply<'a>(rt: &HostRuntime, words: &'a [&'a str], reply: Reply) -> io::Result<()> {
-    if let Reply::Silent = reply {
-        return Ok(());
-    }
     let line = Joined(words);
     let shown = Shown(reply);
     println!(rt; "{line} = {shown}")
 }
 
-// Carries one line out, and says whether it could be read.
-fn play_line(
-    rt: &HostRuntime,
-    registry: &mut Registry,
-    line: &str,
-    number: usize,
-) -> anyhow::Result<bool> {
-    let words = words_of(rt.alloc(), line)?;
-    match carry_out(registry, &words) {
-        Ok(reply) => {
-            print_reply(rt, &words, reply)?;
-            Ok(true)
-        }
-        Err(error) => {
-            println!(rt; "error at line {number}: {error}")?;
-            Ok(false)
-        }
-    }
-}
-
 // Plays a script, and answers how many of its lines were in error.
-pub fn play<R: BufRead + Drop>(rt: &HostRuntime, lines: Lines<R>) -> anyhow::Result<usize> {
-    let mut registry = Registry::new(rt.alloc());
+pub fn play<R: BufRead + Drop>(rt: &HostRuntime, reader: R) -> anyhow::Result<usize> {
+    let heap = rt.alloc();
+    let mut registry = Registry::new(heap);
     let mut bad = 0usize;
-    for (number, line) in (1usize..).zip(lines) {
+    for (number, line) in (1usize..).zip(reader.lines(heap)) {
         let line = line?;
-        if !play_line(rt, &mut registry, line.as_str(), number)? {
-            bad = bad.saturating_add(1);
+        let words = words_of(heap, &line)?;
+        match carry_out(&mut registry, &words) {
+            Ok(Some(reply)) => print_reply(rt, &words, reply)?,
+            Ok(None) => {}
+            Err(error) => {
+                println!(rt; "error at line {number}: {error}")?;
+                bad = bad.saturating_add(1);
+            }
         }
     }
     Ok(bad)

@@ -43,7 +43,6 @@ pub(crate) struct Shown(pub(crate) Reply);
 impl fmt::Display for Shown {
     fn fmt<W: fmt::Write>(&self, f: &mut fmt::Formatter<W>) -> fmt::Result {
         match self.0 {
-            Reply::Silent => Ok(()),
             Reply::Opened(Ok(())) => write!(f, "0"),
             Reply::Opened(Err(refusal)) => {
                 let number = u32::from(refusal);

@@ -37,10 +37,6 @@ behind_more : (done : List ℕ) (n : ℕ) (r : Result (List ℕ) Fault) → behi
 behind_more done n (Ok ns) = ap Ok (sym (append_assoc done (n ∷ []) ns))
 behind_more done n (Err fault) = refl
 
-pub none_read : (r : Result (List ℕ) Fault) → behind [] r ≡ r
-none_read (Ok ns) = refl
-none_read (Err fault) = refl
-
 -- one word more
 word_read : (place n : ℕ) (w : Text) (ws : List Text) (done : List ℕ) → Ok n ≡ number_at place w →
     behind done (numbers_from place (w ∷ ws)) ≡ behind (done ++ n ∷ []) (numbers_from (place + 1) ws)

@@ -4,18 +4,14 @@
 -- first from the left, is no number; a kind, class, wrap or mode, the first from the left, is outside its list. In `ask`
 -- the ID and the question's number are read first, since they say how many words are wanted. In `host` the ID is read
 -- before the kind.
-use Rattle.std.specs.Prelude.{◌≡◌, ℕ, ◌+◌, ◌-◌, ◌*◌, ◌^◌, Bool, true, if◌then◌else◌, find, ◌&&◌, List, [], ◌∷◌, map, length, Some, None, Ok, Err, codes, Option, Result, ◌==◌, nat_le, nat_lt, slice_index}
+use Rattle.std.specs.Prelude.{◌≡◌, ℕ, ◌+◌, ◌-◌, ◌*◌, ◌^◌, Bool, true, if◌then◌else◌, ◌&&◌, List, [], ◌∷◌, map, length, Some, None, Ok, Err, codes, Option, Result, nat_le, nat_lt, slice_index}
 use Rattle.std.specs.Borrow.{Bor}
 use Rattle.std.specs.Option.{ok_or}
 use Rattle.std.specs.Str.{bytes_eq}
 use Rattle.host.specs.declared.forms.ContainerKind.{ContainerKind}
-use Rattle.host.specs.declared.forms.ContainerKind.TheVariants as container
 use Rattle.host.specs.declared.forms.CandidateClass.{CandidateClass}
-use Rattle.host.specs.declared.forms.CandidateClass.TheVariants as class
 use Rattle.host.specs.declared.forms.Wrap.{Wrap}
-use Rattle.host.specs.declared.forms.Wrap.TheVariants as wrap
 use Rattle.host.specs.declared.forms.Mode.{Mode}
-use Rattle.host.specs.declared.forms.Mode.TheVariants as mode
 use Rattle.host.specs.declared.forms.QuestionKind.{QuestionKind}
 use Rattle.host.specs.declared.forms.QuestionKind.TheVariants as kind
 use Rattle.host.specs.declared.forms.ItemId.{ItemId}
@@ -24,7 +20,7 @@ use Rattle.host.specs.declared.forms.TraitItem.{TraitItem}
 use Rattle.host.specs.declared.numbers.UnknownNumber.{UnknownNumber}
 use Rattle.host.specs.declared.questions.Question.{Question}
 use Rattle.host.specs.declared.questions.Question.TheVariants as question
-use Rattle.host.specs.Numbers.{container_number, class_number, wrap_number, mode_number, question_number}
+use Rattle.host.specs.Numbers.{member, container_number, container_kinds, class_number, candidate_classes, wrap_number, wraps, mode_number, modes, question_number, question_kinds}
 use Rattle.rows.specs.Rows.{key}
 use Rattle.script.specs.declared.commands.Command.{Command}
 use Rattle.script.specs.declared.commands.Command.TheVariants as command
@@ -86,25 +82,6 @@ abbrev pub numbers : {X : Type 0} → (first count : ℕ) → List Text → ((�
 numbers first count ws next = exactly count ws (numbers_from first ws) then λ ns. next (λ place. slice_index ns (place - first))
 
 -- Closed sets.
-
--- the member that has the number n
-abbrev pub member : {X : Type 0} → (X → ℕ) → List X → ℕ → Option X
-member code xs n = find (λ x. code x == n) xs
-
-abbrev pub container_kinds : List ContainerKind
-container_kinds = container.Impl ∷ container.Trait ∷ []
-
-abbrev pub candidate_classes : List CandidateClass
-candidate_classes = class.Impl ∷ class.Object ∷ class.Trait ∷ class.Bound ∷ []
-
-abbrev pub wraps : List Wrap
-wraps = wrap.Bare ∷ wrap.Ref ∷ wrap.RefMut ∷ wrap.ConstPtr ∷ []
-
-abbrev pub modes : List Mode
-modes = mode.MethodCall ∷ mode.Path ∷ []
-
-abbrev pub question_kinds : List QuestionKind
-question_kinds = kind.Form ∷ kind.Own ∷ kind.Stray ∷ kind.Item ∷ kind.Bound ∷ kind.Supers ∷ kind.Visible ∷ kind.Skips ∷ kind.Applies ∷ kind.Source ∷ []
 
 -- the member that the number at that place stands for
 abbrev pub kind_at : ℕ → (ℕ → ℕ) → Result ContainerKind Fault

@@ -15,6 +15,9 @@ use questions::numbered_question;
 use rows::Row;
 use words::{number_at, numbers};
 
+// The place on its line of the word behind the command.
+const SECOND: usize = 2;
+
 // No `FromStr`: the fault speaks of the word's place on its line.
 #[tactic(auto, unfolding(crate::specs::Grammar::host_kind))]
 fn host_kind(word: &str) -> Result<HostKind, Fault>
@@ -35,7 +38,7 @@ fn host_line(words: &[&str]) -> Result<Command, Fault>
     match words {
         [] | [_] => Err(Fault::TooFewWords),
         [id, kind] => {
-            let id = number_at(id, 2)?;
+            let id = number_at(id, SECOND)?;
             let kind = host_kind(kind)?;
             Ok(Command::Host { id, kind })
         }
@@ -48,7 +51,7 @@ fn host_line(words: &[&str]) -> Result<Command, Fault>
 fn row_line(words: &[&str]) -> Result<Command, Fault>
     ensures { result ≡ row_line (texts words.now) }
 {
-    let row = Row::from(numbers::<11>(words, 2)?);
+    let row = Row::from(numbers::<11>(words, SECOND)?);
     Ok(Command::Row(row))
 }
 
@@ -57,7 +60,7 @@ fn row_line(words: &[&str]) -> Result<Command, Fault>
 fn open_line(words: &[&str]) -> Result<Command, Fault>
     ensures { result ≡ open_line (texts words.now) }
 {
-    let [id] = numbers::<1>(words, 2)?;
+    let [id] = numbers::<1>(words, SECOND)?;
     Ok(Command::Open { id })
 }
 
@@ -69,7 +72,7 @@ fn ask_line(words: &[&str]) -> Result<Command, Fault>
     let [id, number, arguments @ ..] = words else {
         return Err(Fault::TooFewWords);
     };
-    let id = number_at(id, 2)?;
+    let id = number_at(id, SECOND)?;
     let number = number_at(number, 3)?;
     let question = numbered_question(number, arguments)?;
     Ok(Command::Ask { id, question })

@@ -36,7 +36,7 @@ pub(crate) fn numbers<const N: usize>(words: &[&str], first: usize) -> Result<[u
         return Err(Fault::TooManyWords);
     }
     let mut found = [0; N];
-    // A zip of places and words would be no plainer, since the fault's place is counted too.
+    // Not `array::try_from_fn`: its clause says that some index gave the error, and the grammar wants the first that does.
     for (i, word) in words.iter().enumerate() {
         found[i] = number_at(word, first + i)?;
     }

@@ -2,13 +2,10 @@
 #![tactic(auto)]
 
 use runner::play;
-use std::io::{BufRead, BufReader};
+use std::io::BufReader;
 
 fn run(rt: &HostRuntime) -> anyhow::Result<()> {
-    let bad = play(
-        rt,
-        BufReader::new(rt.alloc(), rt.stdin())?.lines(rt.alloc()),
-    )?;
+    let bad = play(rt, BufReader::new(rt.alloc(), rt.stdin())?)?;
     println!(rt; "{bad} lines in error")?;
     Ok(())
 }

@@ -1,6 +1,6 @@
 -- What opening a table answers.
-use Rattle.std.specs.Prelude.{◌≡◌, ℕ, ◌^◌, ◌<◌, List, Ok, Err, vec_items, Result}
-use Rattle.host.specs.Law.{SupersLawful, SupertraitLaw}
+use Rattle.std.specs.Prelude.{◌≡◌, List, Ok, Err, vec_items, Result}
+use Rattle.host.specs.Law.{SupertraitLaw, SupertraitLawFails}
 use Rattle.host.specs.declared.refusals.Refusal.{Refusal}
 use Rattle.host.specs.declared.refusals.Refusal.TheVariants.{UnlawfulSupertraits}
 use Rattle.rows.specs.Tables.{tabled}
@@ -10,4 +10,4 @@ use Rattle.tabled.specs.declared.table.TabledHost.{TabledHost}
 -- A host over just these rows where the supertrait law holds at every trait of 32 bits; refused where it fails at one.
 abbrev pub Opened : List Row → Result TabledHost Refusal → Type 0
 Opened rs (Ok h) = (vec_items h.rows ≡ rs) × SupertraitLaw (tabled rs)
-Opened rs (Err e) = (e ≡ UnlawfulSupertraits) × ((t : ℕ) × (t < 2 ^ 32) × (SupersLawful (tabled rs) t → ⊥))
+Opened rs (Err e) = (e ≡ UnlawfulSupertraits) × SupertraitLawFails (tabled rs)

@@ -1,5 +1,5 @@
 -- A list that a closure is asked for place by place, from the start of a range on.
-use Rattle.std.proofs.Common.{◌≡◌, ℕ, zero, suc, ◌+◌, ◌-◌, Some, None, Option, refl, ap, ◌∙◌, subst, arith}
+use Rattle.std.proofs.Common.{◌≡◌, ℕ, zero, suc, ◌+◌, ◌-◌, Some, None, Option, refl, sym, ap, ◌∙◌, subst, arith}
 use Rattle.std.specs.Fn.{Called}
 use Rattle.std.specs.Iterator.{AlwaysYields}
 use Rattle.std.specs.Iterator.Adapters.{map_while_source, map_while_callee, map_while_steps}
@@ -7,6 +7,7 @@ use Rattle.std.specs.declared.ops.Range.{Range}
 use Rattle.std.specs.declared.iter.MapWhile.{MapWhile}
 use Rattle.std.proofs.iter.Yields.{nat_range_steps}
 use Rattle.std.proofs.lemmas.Iterator.{YieldsList}
+use Rattle.std.proofs.lemmas.Option.{none-some}
 use Rattle.host.specs.Meaning.{joined, listed_from}
 use denote.Param.Members.{Mut}
 
@@ -20,7 +21,7 @@ module _ {X F : Type 0} (g : Mut F (ℕ × Unit {0}) (Option X)) (f : ℕ → Op
 
   -- a turn at its end
   stop : (s t : MapWhile (Range ℕ) F) (x : X) → (map_while_source s).end - (map_while_source s).start ≡ 0 → map_while_steps nat_range_steps g s (Some x) t → ⊥
-  stop s t x e (None, q, m) = let z : 0 ≡ suc 0 = cc in omega arith
+  stop s t x e (None, q, m) = none-some x (sym m.0)
   stop s t x e (Some k, q, m) = omega (arith, e, q.1.0)
 
   asks : (n : ℕ) (s : MapWhile (Range ℕ) F) → map_while_callee s ≡ h → (map_while_source s).end - (map_while_source s).start ≡ n → AlwaysYields (map_while_steps nat_range_steps g) (λ y. y) s (listed_from f (map_while_source s).start n)
@@ -29,8 +30,8 @@ module _ {X F : Type 0} (g : Mut F (ℕ × Unit {0}) (Option X)) (f : ℕ → Op
   asks (suc n) s c e = goes (f (map_while_source s).start) refl (λ t d a b. subst (λ p. AlwaysYields (map_while_steps nat_range_steps g) (λ y. y) t (listed_from f p n)) a (asks n t d b))
     where
       goes : (o : Option X) → f (map_while_source s).start ≡ o → ((t : MapWhile (Range ℕ) F) → map_while_callee t ≡ h → (map_while_source t).start ≡ (map_while_source s).start + 1 → (map_while_source t).end - (map_while_source t).start ≡ n → AlwaysYields (map_while_steps nat_range_steps g) (λ y. y) t (listed_from f ((map_while_source s).start + 1) n)) → AlwaysYields (map_while_steps nat_range_steps g) (λ y. y) s (joined o (listed_from f ((map_while_source s).start + 1) n))
-      goes None is more = λ x t p. let w = (turn s t (Some x) n c e p).0 in let z : 0 ≡ suc 0 = cc in omega arith
-      goes (Some y) is more = ((λ t p. let w = (turn s t None n c e p).0 in let z : 0 ≡ suc 0 = cc in omega arith), λ x t p. let w = turn s t (Some x) n c e p in let z = w.0 in (cc, more t w.1 w.2 w.3))
+      goes None is more = λ x t p. none-some x (sym is ∙ sym (turn s t (Some x) n c e p).0)
+      goes (Some y) is more = ((λ t p. none-some y ((turn s t None n c e p).0 ∙ is)), λ x t p. let w = turn s t (Some x) n c e p in let z = w.0 in (cc, more t w.1 w.2 w.3))
 
   -- what the places of a range that begins at 0 give, up to the first that is absent
   pub asked_gives : (s : MapWhile (Range ℕ) F) (n : ℕ) → map_while_callee s ≡ h → map_while_source s ≡ record { start = 0; end = n } → YieldsList (map_while_steps nat_range_steps g) (λ y. y) s (listed_from f 0 n)

@@ -1,11 +1,10 @@
--- Tests for equal numbers and containers, and kinds by number.
-use Rattle.std.proofs.Common.{◌≡◌, ℕ, cond, eqb, ◌≢◌, Some, None, Option, Ok, Err, Result, sym, refl, ap, ◌∙◌, arith}
+-- Tests for equal numbers and containers, and the container of a row.
+use Rattle.std.proofs.Common.{◌≡◌, cond, eqb, Some, None, Option, Result, sym, refl, ap, ◌∙◌, arith}
 use Rattle.std.specs.Option.{option_map}
-use Rattle.std.specs.List.{slice_get}
 use Rattle.std.specs.Result.{result_ok}
-use Rattle.std.proofs.lemmas.Option.{slice_get_past}
 use Rattle.std.proofs.lemmas.Bool.{eqb-true, eq-eqb, ne_eqb, and_parts, and_from}
-use Rattle.host.specs.Numbers.{Reads, container_number, question_number}
+use Rattle.host.specs.Numbers.{Reads, member, container_number, container_kinds, question_number}
+use Rattle.host.proofs.Members.{read_member, whole_container_kinds}
 use Rattle.host.specs.declared.numbers.UnknownNumber.{UnknownNumber}
 use Rattle.host.specs.declared.forms.QuestionKind.{QuestionKind}
 use Rattle.host.specs.declared.forms.QuestionKind.TheVariants.{Item}
@@ -13,7 +12,7 @@ use Rattle.rows.specs.Rows.{Speaks}
 use Rattle.host.specs.declared.forms.ContainerKind.{ContainerKind}
 use Rattle.host.specs.declared.forms.ContainerKind.TheVariants.{Impl, Trait}
 use Rattle.rows.specs.declared.rows.Row.{Row}
-use Rattle.vetting.specs.Containers.{same_container, kinds, numbered, container_in}
+use Rattle.vetting.specs.Containers.{same_container, numbered, container_in}
 use Rattle.vetting.proofs.Keeping.{Exact}
 
 pub exact_numbers : Exact eqb
@@ -35,24 +34,12 @@ exact_containers = record {
   itself = λ x. and_from (eqb (container_number x.kind) (container_number x.kind)) (eqb x.number x.number) (eq-eqb (container_number x.kind) (container_number x.kind) refl) (eq-eqb x.number x.number refl);
 }
 
-kind_back : (k : ContainerKind) → slice_get kinds (container_number k) ≡ Some k
-kind_back Impl = refl
-kind_back Trait = refl
-
--- what a number reads as, by its place among the kinds
-kind_read : (n : ℕ) (r : Result ContainerKind UnknownNumber) → Reads container_number n r → result_ok r ≡ slice_get kinds n
-kind_read n (Ok k) h = sym (kind_back k) ∙ ap (slice_get kinds) h.1
-kind_read n (Err e) h =
-    let a : 0 ≢ n = λ e. (let z = h.0 Impl e in let y : ◌≡◌ {A = ℕ} 0 1 = cc in omega arith) in
-    let b : 1 ≢ n = λ e. (let z = h.0 Trait e in let y : ◌≡◌ {A = ℕ} 0 1 = cc in omega arith) in
-    sym (slice_get_past kinds n (omega arith))
-
 -- the container of a row of an item, whose kind reads as k
 pub of_an_item : (r : Row) (o : Option QuestionKind) (k : Result ContainerKind UnknownNumber) → Speaks r o → o ≡ Some Item → Reads container_number r.key.a1 k → option_map (numbered r) (result_ok k) ≡ container_in r
 of_an_item r o k asked is h =
-    ap (option_map (numbered r)) (kind_read r.key.a1 k h) ∙ sym (ap (λ t. cond t (option_map (numbered r) (slice_get kinds r.key.a1)) None) (eq-eqb r.key.question (question_number Item) (sym ((asked Item).0 is))))
+    ap (option_map (numbered r)) (read_member container_number container_kinds whole_container_kinds r.key.a1 k h) ∙ sym (ap (λ t. cond t (option_map (numbered r) (member container_number container_kinds r.key.a1)) None) (eq-eqb r.key.question (question_number Item) (sym ((asked Item).0 is))))
 
 -- and of another row
 pub of_no_item : (r : Row) (o : Option QuestionKind) → Speaks r o → (o ≡ Some Item → ⊥) → None ≡ container_in r
 of_no_item r o asked other =
-    sym (ap (λ t. cond t (option_map (numbered r) (slice_get kinds r.key.a1)) None) (ne_eqb r.key.question (question_number Item) (λ e. other ((asked Item).1 (sym e)))))
+    sym (ap (λ t. cond t (option_map (numbered r) (member container_number container_kinds r.key.a1)) None) (ne_eqb r.key.question (question_number Item) (λ e. other ((asked Item).1 (sym e)))))

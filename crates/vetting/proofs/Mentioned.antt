@@ -1,6 +1,7 @@
 -- What a row speaks of, by the kind of its question.
-use Rattle.std.proofs.Common.{◌≡◌, ℕ, false, nat_eq, List, [], ◌∷◌, ◌++◌, Some, None, refl, arith, ap, ◌∙◌, ◌||◌, ◌&&◌}
+use Rattle.std.proofs.Common.{◌≡◌, false, nat_eq, List, [], ◌∷◌, ◌++◌, Some, None, refl, ap, ◌∙◌, ◌||◌, ◌&&◌}
 use Rattle.std.proofs.lemmas.Bool.{ne_eqb}
+use Rattle.std.proofs.lemmas.Option.{none-some}
 use Rattle.host.specs.Numbers.{question_number}
 use Rattle.host.specs.declared.forms.QuestionKind.{QuestionKind}
 use Rattle.host.specs.declared.forms.QuestionKind.TheVariants as asks
@@ -10,13 +11,10 @@ use Rattle.vetting.specs.Subjects.{only, of_question, mentioned, asking}
 use Rattle.vetting.specs.declared.speaking.Subject.{Subject}
 use Rattle.vetting.specs.declared.speaking.Subject.TheVariants as about
 
-none_some : {X : Type 0} (x : X) → None ≡ Some x → ⊥
-none_some x e = let z : ◌≡◌ {A = ℕ} 0 1 = cc in omega arith
-
 none_of : (r : Row) → Speaks r None → (ks : List QuestionKind) → of_question r ks ≡ false
 none_of r h [] = refl
 none_of r h (k ∷ ks) =
-    ap (λ b. b || of_question r ks) (ne_eqb (question_number k) r.key.question (λ e. none_some k ((h k).1 e))) ∙ none_of r h ks
+    ap (λ b. b || of_question r ks) (ne_eqb (question_number k) r.key.question (λ e. none-some k ((h k).1 e))) ∙ none_of r h ks
 
 pub mentioned_by : (s : Subject) (r : Row) (k : QuestionKind) → Speaks r (Some k) → mentioned s (asking r k) ≡ mentioned s r
 mentioned_by s r k h = ap (λ n. mentioned s (record r { key = record r.key { question = n } })) ((h k).0 refl)

@@ -11,14 +11,15 @@ use roll::Same;
 use rows::Row;
 use std::alloc::{AllocError, Global};
 
-// An impl or a trait, by its number.
+// An impl or a trait, by its number. A type of its own, since an `ItemId` has a place beside these two, and a search's source of a
+// candidate belongs to crates above hosts.
 #[derive(Clone, Copy, PartialEq, Eq, Hash)]
 pub struct Container {
     pub kind: ContainerKind,
     pub number: u32,
 }
 
-// Containers are one if kind and number are.
+// Containers are one if kind and number are. Nothing here asks it: it is promised to loaders that put containers on rolls.
 impl Same for Container {
     ghost same = { same_container };
 
@@ -37,9 +38,9 @@ impl Same for Container {
 fn container_in(row: &Row) -> Option<Container>
     ensures { result ≡ container_in row.now }
 {
-    let Some(QuestionKind::Item) = row.question() else {
+    if row.question() != Some(QuestionKind::Item) {
         return None;
-    };
+    }
     let kind = ContainerKind::try_from(row.key.a1);
     kind.ok().map(|kind| Container {
         kind,

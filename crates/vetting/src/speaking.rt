@@ -18,7 +18,8 @@ pub enum Subject {
     Name,
 }
 
-// The numbers of that sort in a row that answers a question of that kind.
+// The numbers of that sort in a row that answers a question of that kind: at most two. A pair of them is chained as it stands;
+// an array of options would have to be flattened, and be no plainer.
 fn said(row: &Row, subject: Subject, kind: QuestionKind) -> (Option<u32>, Option<u32>)
     ensures { option_to_list result.0 ++ option_to_list result.1 ≡ mentioned subject (asking row.now kind) }
 {

@@ -1,6 +1,5 @@
 use super::*;
 use host::{ContainerKind, ItemId};
-use roll::Same;
 use rows::Row;
 use std::test::Fail;
 use tabled::TabledHost;
@@ -57,20 +56,18 @@ fn a_name_in_an_impl_and_a_trait(rt: HostRuntime) -> Result<(), Fail> {
     let own = entries(heap, &table, NumberList::Own { ty: 1 })?;
     assert_eq!(rt; own.as_slice(), [7].as_slice());
     let found = carriers(heap, &table, &held, 50)?;
-    assert!(rt; found.len() == 2);
-    assert!(rt;
-        found[0].is_same(&ItemId {
+    let calls = [
+        ItemId {
             kind: ContainerKind::Impl,
             container: 7,
             place: 0,
-        })
-    );
-    assert!(rt;
-        found[1].is_same(&ItemId {
+        },
+        ItemId {
             kind: ContainerKind::Trait,
             container: 9,
             place: 1,
-        })
-    );
+        },
+    ];
+    assert!(rt; found.as_slice() == calls.as_slice());
     Ok(())
 }

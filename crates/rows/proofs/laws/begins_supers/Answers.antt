@@ -1,3 +1,4 @@
+-- By hand: with both lemmas named on the function, the search gives up.
 use Rattle.std.proofs.Common.{◌∙◌, sym, rules}
 use Rattle.host.specs.declared.forms.QuestionKind.TheVariants.{Supers}
 use Rattle.rows.proofs.Questions.{kind_is, kind_differs}

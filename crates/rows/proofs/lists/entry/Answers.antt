@@ -10,7 +10,7 @@ use Rattle.rows.proofs.lists.entry.Goals as goal
 
 pub returns : goal.returns
 returns c =
-    let os = c.gather-slots.result in
+    let os = c.slots_of-slots.result in
     let ran = c.nth.ensures.ran in
     let found = nth_from_yields_List c.nth.result _ c.args.place (ran.0, ran.1, ran.2) (YieldsList-from_map_while _ (YieldsList-at c.map_while.ensures.source (YieldsList-from_slice os cc)) c.map_while.ensures.closure (λ x o q k. search (rules, tests))) in
-    sym (option_map_id c.nth.result) ∙ found ∙ ap (λ xs. slice_get xs c.args.place) (sym (entries_are c.args.listing c.args.rows.now os c.gather-slots.ensures.asked c.gather-slots.ensures.gathered))
+    sym (option_map_id c.nth.result) ∙ found ∙ ap (λ xs. slice_get xs c.args.place) (sym (entries_are c.args.listing c.args.rows.now os c.slots_of-slots.ensures.asked c.slots_of-slots.ensures.gathered))

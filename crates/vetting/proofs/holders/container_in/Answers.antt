@@ -2,11 +2,8 @@ use Rattle.std.proofs.Common.{rules}
 use Rattle.vetting.proofs.Equals.{of_an_item, of_no_item}
 use Rattle.vetting.proofs.holders.container_in.Goals as goal
 
-pub returns-in_default : goal.returns-in_default
-returns-in_default c = of_no_item c.args.row.now c.question.result c.question.ensures (λ e. search rules)
-
-pub returns-in_default-2 : goal.returns-in_default-2
-returns-in_default-2 c = of_no_item c.args.row.now c.question.result c.question.ensures (λ e. search rules)
+pub returns-then-ne : goal.returns-then-ne
+returns-then-ne c = of_no_item c.args.row.now c.question.result c.question.ensures (λ e. search rules)
 
 pub returns : goal.returns
 returns c = let e = of_an_item c.args.row.now c.question.result c.try_from-kind.result c.question.ensures (search rules) c.try_from-kind.ensures in search rules

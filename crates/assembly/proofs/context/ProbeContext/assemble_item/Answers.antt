@@ -1,5 +1,5 @@
+use Rattle.assembly.specs.Growth.{offer_of}
 use Rattle.assembly.proofs.Growing.{added_nothing, added_one, made}
-use Rattle.assembly.proofs.Fronts.{offer_of}
 use Rattle.assembly.proofs.context.ProbeContext.assemble_item.Goals as goal
 
 pub returns-in_default : goal.returns-in_default

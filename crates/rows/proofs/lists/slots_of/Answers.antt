@@ -4,8 +4,8 @@ use Rattle.rows.specs.Rows.{key_of}
 use Rattle.rows.specs.Lists.{at, Noted, Gathered}
 use Rattle.rows.proofs.Answering.{no_row}
 use Rattle.rows.proofs.Gathering.{gathered_none, gathered_more, gathered_all, gathered_default, passed_over}
-use Rattle.rows.proofs.lists.gather.Goals as goal
-use Rattle.rows.proofs.lists.gather.Goals.{then-row-first, else-row-first}
+use Rattle.rows.proofs.lists.slots_of.Goals as goal
+use Rattle.rows.proofs.lists.slots_of.Goals.{then-row-first, else-row-first}
 
 pub loop-row-init : goal.loop-row-init
 loop-row-init c = gathered_none c.args.listing
@@ -16,7 +16,7 @@ loop-row-preserved c =
     let i = c.loop-row.row-index in
     let l = c.args.listing in
     let row = get_or rows i no_row in
-    let first : c.key_of-first.result.question ≡ (key_of (at l 0)).question = ap (λ k. k.question) (c.key_of-first.ensures.value ∙ ap key_of c.at.ensures.value) in
+    let first : c.from-first.result.question ≡ (key_of (at l 0)).question = ap (λ k. k.question) (c.from-first.ensures.0 ∙ ap key_of c.at.ensures.value) in
     let noted : Noted l row c.loop-row.slots c.if-row-first.slots = elim c.if-row-first.branch [
       | then-row-first w ↦ subst (λ os. Noted l row c.loop-row.slots os) (sym w.slots-is) w.note.ensures
       | else-row-first w ↦ subst (λ os. Noted l row c.loop-row.slots os) (sym w.slots-is) (passed_over l row c.loop-row.slots (λ e. w.if-row-first.false (e ∙ sym first)))
