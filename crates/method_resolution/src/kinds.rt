@@ -33,7 +33,7 @@ impl From<CandidateKind> for CandidateClass {
 }
 
 impl CandidateKind {
-    // The type of the step that offers the trait of an object or a bound; 0 for the other kinds.
+    // The type of the step that offers the trait of an object or a bound; by rule 0 for the other kinds.
     pub fn origin(self) -> u32
         ensures { result ≡ origin_of self }
     {

@@ -74,7 +74,7 @@ impl fmt::Display for Place {
     }
 }
 
-// Items, separated by commas, each with a blank in front.
+// Items, separated by commas, each with a blank in front; not by `Joined`, whose words show themselves.
 #[derive(Drop)]
 struct Places<'a>(&'a [ItemId]);
 

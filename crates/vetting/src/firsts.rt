@@ -7,8 +7,8 @@ use std::alloc::{AllocError, Global};
 use std::collections::HashSet;
 use std::hash::Hash;
 
-// What an iterator gives, each element once, in the order in which they first come. A set beside the list, and no ordered set of
-// the kit: the crates below `runner` stand on the standard library alone.
+// What an iterator gives, each element once, in the order in which they first come. A set beside the list, and no set of the
+// kit that keeps the order of arrival: the crates below `runner` stand on the standard library alone.
 pub(crate) fn firsts<T: Copy + Eq + Hash, I: Iterator<Item = T> + Drop>(
     heap: Global,
     elements: I,
