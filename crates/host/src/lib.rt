@@ -21,7 +21,7 @@ pub use forms::{
 };
 pub use laws::{alike_hosts_have_one_meaning, hosts_are_lawful};
 pub use lending::Lent;
-pub use numbers::UnknownNumber;
+pub use numbers::{Numbered, UnknownNumber};
 pub use questions::{Answer, Question, ask};
 pub use refusals::Refusal;
 

@@ -1,6 +1,8 @@
-// The numbers by which rows and scripts write the closed sets. Each set has its own two impls: one match is plainer than a
+// The numbers by which rows and scripts write the closed sets. Each set has its own impls: one match is plainer than a
 // search in a table of members, and no macro of ours may write an impl.
-ghost use Rattle.std.specs.Prelude.{◌≡◌};
+ghost use Rattle.std.specs.Prelude.{◌≡◌, ℕ, Result};
+ghost use Rattle.std.proofs.Common.{rules};
+ghost use Rattle.host.specs.declared.numbers.UnknownNumber.{UnknownNumber};
 ghost use Rattle.host.specs.Numbers.{Reads, form_number, container_number, sort_number, class_number, wrap_number, mode_number, question_number};
 
 use super::forms::{CandidateClass, ContainerKind, Form, Mode, QuestionKind, Sort, Wrap};
@@ -8,6 +10,15 @@ use super::forms::{CandidateClass, ContainerKind, Form, Mode, QuestionKind, Sort
 // A number that no member of the closed set has.
 #[derive(Clone, Copy, PartialEq, Eq)]
 pub struct UnknownNumber(pub u32);
+
+// A closed set in which each member has a number of its own, by which it converts both ways: for code over any of the sets.
+pub trait Numbered: TryFrom<u32, Error = UnknownNumber> + Into<u32> {
+    ghost code: { Self → ℕ };
+
+    ghost writes: { (x : Self) (n : ℕ) → Self.converts x n → n ≡ code x };
+
+    ghost reads: { (n : ℕ) (r : Result Self UnknownNumber) → Self.try_from_gives n r → Reads code n r };
+}
 
 impl From<Form> for u32 {
     ghost from_gives = { λ form n. n ≡ form_number form };
@@ -40,6 +51,14 @@ impl TryFrom<u32> for Form {
     }
 }
 
+impl Numbered for Form {
+    ghost code = { form_number };
+
+    ghost writes = { Prim.search rules };
+
+    ghost reads = { Prim.search rules };
+}
+
 impl From<ContainerKind> for u32 {
     ghost from_gives = { λ kind n. n ≡ container_number kind };
 
@@ -60,6 +79,14 @@ impl TryFrom<u32> for ContainerKind {
             _ => Err(UnknownNumber(n)),
         }
     }
+}
+
+impl Numbered for ContainerKind {
+    ghost code = { container_number };
+
+    ghost writes = { Prim.search rules };
+
+    ghost reads = { Prim.search rules };
 }
 
 impl From<Sort> for u32 {
@@ -83,6 +110,14 @@ impl TryFrom<u32> for Sort {
             _ => Err(UnknownNumber(n)),
         }
     }
+}
+
+impl Numbered for Sort {
+    ghost code = { sort_number };
+
+    ghost writes = { Prim.search rules };
+
+    ghost reads = { Prim.search rules };
 }
 
 impl From<CandidateClass> for u32 {
@@ -109,6 +144,14 @@ impl TryFrom<u32> for CandidateClass {
     }
 }
 
+impl Numbered for CandidateClass {
+    ghost code = { class_number };
+
+    ghost writes = { Prim.search rules };
+
+    ghost reads = { Prim.search rules };
+}
+
 impl From<Wrap> for u32 {
     ghost from_gives = { λ wrap n. n ≡ wrap_number wrap };
 
@@ -133,6 +176,14 @@ impl TryFrom<u32> for Wrap {
     }
 }
 
+impl Numbered for Wrap {
+    ghost code = { wrap_number };
+
+    ghost writes = { Prim.search rules };
+
+    ghost reads = { Prim.search rules };
+}
+
 impl From<Mode> for u32 {
     ghost from_gives = { λ mode n. n ≡ mode_number mode };
 
@@ -153,6 +204,14 @@ impl TryFrom<u32> for Mode {
             _ => Err(UnknownNumber(n)),
         }
     }
+}
+
+impl Numbered for Mode {
+    ghost code = { mode_number };
+
+    ghost writes = { Prim.search rules };
+
+    ghost reads = { Prim.search rules };
 }
 
 impl From<QuestionKind> for u32 {
@@ -183,4 +242,12 @@ impl TryFrom<u32> for QuestionKind {
             _ => Err(UnknownNumber(n)),
         }
     }
+}
+
+impl Numbered for QuestionKind {
+    ghost code = { question_number };
+
+    ghost writes = { Prim.search rules };
+
+    ghost reads = { Prim.search rules };
 }

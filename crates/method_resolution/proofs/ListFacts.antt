@@ -1,5 +1,5 @@
 -- Facts on lists, membership and tests.
-use Rattle.std.proofs.Common.{◌≡◌, ℕ, ◌≤◌, Bool, true, false, cond, eqb, List, [], ◌∷◌, ◌++◌, length, filter, sym, refl, ◌∙◌, subst, inl, inr, ⊎_elim, arith}
+use Rattle.std.proofs.Common.{◌≡◌, ℕ, ◌≤◌, Bool, true, false, true≢false, cond, eqb, ◌⊎◌, List, [], ◌∷◌, ◌++◌, length, filter, sym, refl, ◌∙◌, subst, inl, inr, ⊎_elim, arith}
 use Rattle.method_resolution.specs.Types.{None, Some}
 use Rattle.std.specs.List.{AllByRecursion as All, find, list_all, list_any}
 use Rattle.std.proofs.lemmas.Bool.{and_parts, and_from, or_cases, or_left, or_right, eqb-true, eq-eqb}
@@ -21,6 +21,11 @@ pub all_at : {X : Type 0} (P : X → Type 0) (xs : List X) (x : X) → All P xs 
 all_at P [] x a m = absurd m
 all_at P (y ∷ ys) x a (inl e) = subst P (sym e) a.0
 all_at P (y ∷ ys) x a (inr m) = all_at P ys x a.1 m
+
+-- what holds of each member holds of all
+pub all_from_in : {X : Type 0} (P : X → Type 0) (xs : List X) → ((x : X) → x ∈ xs → P x) → All P xs
+all_from_in P [] h = tt
+all_from_in P (x ∷ xs) h = (h x (inl refl), all_from_in P xs (λ y m. h y (inr m)))
 
 -- tests that decide
 module _ {X : Type 0} (P : X → Type 0) (f : X → Bool) where
@@ -60,6 +65,14 @@ pub member_from : (n : ℕ) (xs : List ℕ) → n ∈ xs → member n xs ≡ tru
 member_from n [] m = absurd m
 member_from n (x ∷ xs) (inl e) = or_left (eqb n x) (member n xs) (eq-eqb n x e)
 member_from n (x ∷ xs) (inr m) = or_right (eqb n x) (member n xs) (member_from n xs m)
+
+-- decided membership
+pub member_or_not : (n : ℕ) (xs : List ℕ) → (n ∈ xs) ⊎ (n ∈ xs → ⊥)
+member_or_not n xs = step (member n xs) refl
+  where
+    step : (b : Bool) → member n xs ≡ b → (n ∈ xs) ⊎ (n ∈ xs → ⊥)
+    step true e = inl (member_says n xs e)
+    step false e = inr (λ m. absurd (true≢false (sym (member_from n xs m) ∙ e)))
 
 -- the first element of which P holds
 pub first_holds : {X : Type 0} (P : X → Type 0) (xs : List X) (x : X) → First P xs x → P x

@@ -1,5 +1,5 @@
 -- What stands before the first empty slot, as a chain of iterators gives it.
-use Rattle.std.proofs.Common.{◌≡◌, ℕ, suc, ◌+◌, ◌<◌, List, [], ◌∷◌, length, get_or, Some, None, Option, MatchOption, sym, ap, ◌∙◌, refl, subst, map-id, add-zero, arith}
+use Rattle.std.proofs.Common.{◌≡◌, ℕ, suc, ◌+◌, ◌<◌, ◌≤◌, List, [], ◌∷◌, length, get_or, Some, None, Option, MatchOption, sym, ap, ◌∙◌, refl, subst, map-id, add-zero, arith}
 use Rattle.std.specs.Fn.{Called}
 use Rattle.std.specs.Iterator.{Yields, AlwaysYields}
 use Rattle.std.specs.Iterator.Adapters.{map_while_source, map_while_callee, map_while_steps}
@@ -13,6 +13,11 @@ use Rattle.host.specs.Meaning.{listed_from, joined}
 abbrev pub fronts : {X : Type 0} → List (Option X) → List X
 fronts [] = []
 fronts (o ∷ os) = joined o (fronts os)
+
+pub length-fronts : {X : Type 0} (os : List (Option X)) → length (fronts os) ≤ length os
+length-fronts [] = omega arith
+length-fronts (None ∷ os) = omega arith
+length-fronts (Some x ∷ os) = omega (arith, length-fronts os)
 
 pub listed-fronts : {X : Type 0} (f : ℕ → Option X) (os : List (Option X)) (p : ℕ) → ((k : ℕ) → k < length os → get_or os k None ≡ f (p + k)) → listed_from f p (length os) ≡ fronts os
 unfolding listed_from

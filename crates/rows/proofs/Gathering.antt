@@ -1,10 +1,12 @@
 -- The slots of a list: what one more row does to them, and how the list is read off them.
 use Rattle.std.proofs.Common.{◌≡◌, ℕ, zero, suc, ◌+◌, ◌^◌, ◌<◌, ◌≤◌, true, cond, eqb, ltb, List, [], ◌∷◌, ◌++◌, length, get_or, take, replicate, Some, None, Option, sym, refl, ap, ◌∙◌, subst, arith}
 use Rattle.std.specs.Option.{option_or}
+use Rattle.std.specs.List.{slice_get}
+use Rattle.std.proofs.lemmas.Option.{slice_get_past}
 use Rattle.std.proofs.lemmas.List.{get_or-replicate, take_all}
 use Rattle.std.proofs.lemmas.List.Folds.{find-append}
 use Rattle.std.proofs.lemmas.Bool.{and_parts, and_from, and_left, ne_eqb, lt-ltb}
-use Rattle.host.specs.Meaning.{listed_from, joined}
+use Rattle.host.specs.Meaning.{listed, listed_from, joined}
 use Rattle.host.specs.Questions.{askable, small}
 use Rattle.rows.proofs.Fronts.{fronts, listed-fronts}
 use Rattle.rows.specs.declared.lists.Listing.{Listing}
@@ -62,6 +64,10 @@ length-listed {X} f p (suc n) = step (f p) (listed_from f (p + 1) n) (length-lis
     step : (o : Option X) (xs : List X) → length xs ≤ n → length (joined o xs) ≤ suc n
     step None xs h = omega arith
     step (Some x) xs h = omega arith
+
+-- and none at a place past those
+pub entry_past : {X : Type 0} (f : ℕ → Option X) (p : ℕ) → 64 ≤ p → slice_get (listed f) p ≡ None
+entry_past f p h = slice_get_past (listed f) p (omega (arith, length-listed f 0 64))
 
 option_or_last : {X : Type 0} (o : Option X) → option_or o None ≡ o
 option_or_last None = refl

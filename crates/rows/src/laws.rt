@@ -1,7 +1,7 @@
 // The supertrait law, checked over the rows.
 ghost use Rattle.std.specs.Prelude.{◌≡◌, nat_eq, Some, IsTrue, ◌↔◌, MatchBool};
 ghost use Rattle.roll.specs.Equality.{on};
-ghost use Rattle.host.specs.Law.{SupertraitLaw, SupertraitLawFails};
+ghost use Rattle.host.specs.Law.{SupersLawful, SupertraitLaw, SupertraitLawFails};
 ghost use Rattle.host.specs.Meaning.{supers_of};
 ghost use Rattle.rows.specs.Breaches.{Tells, first_some, beginning, missing, entry_breach, breach_of, said, Begins, Broken, Unbroken};
 ghost use Rattle.rows.specs.Tables.{tabled};
@@ -142,11 +142,18 @@ fn begins_supers(row: &Row) -> bool
     row.question() == Some(QuestionKind::Supers) && row.key.a2 <= LAST_LONE_PLACE
 }
 
+// Whether the law breaks at a trait. Within `is_broken_at`, room for the breach would be cleared at every row.
+fn breaks_at(rows: &[Row], tr: u32) -> bool
+    ensures { MatchBool result (SupersLawful (tabled rows.now) tr → ⊥) (SupersLawful (tabled rows.now) tr) }
+{
+    breach_of(rows, tr).is_some()
+}
+
 // Whether the law breaks at the trait of a row; passes over rows at which it cannot.
 fn is_broken_at(rows: &[Row], row: &Row) -> bool
     ensures { MatchBool result (Broken (tabled rows.now) row.now) (Unbroken (tabled rows.now) row.now) }
 {
-    begins_supers(row) && breach_of(rows, row.key.a1).is_some()
+    begins_supers(row) && breaks_at(rows, row.key.a1)
 }
 
 // Whether the law holds at every trait.

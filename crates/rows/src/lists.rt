@@ -96,6 +96,10 @@ pub(crate) fn slots_of(rows: &[Row], listing: Listing) -> [Option<Row>; PLACES]
 pub fn entry(rows: &[Row], listing: Listing, place: u32) -> Option<Row>
     ensures { result ≡ slice_get (entries rows.now listing) place }
 {
+    // No list is that long: answer before the pass over the rows.
+    if place >= MOST_ENTRIES {
+        return None;
+    }
     let slots = slots_of(rows, listing);
     slots.iter().map_while(|slot| *slot).nth(place as usize)
 }

@@ -118,7 +118,7 @@ impl From<Question> for Key {
 pub(crate) fn first_row(rows: &[Row], key: Key) -> Option<Row>
     ensures { result ≡ first_row rows.now key }
 {
-    rows.iter().copied().find(|row| row.key == key)
+    rows.iter().find(|row| row.key == key).copied()
 }
 
 // The row that answers a question.

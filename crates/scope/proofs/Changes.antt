@@ -32,11 +32,13 @@ module _ (es : List Entry) (d : Distinct (traits_of es)) (k : Claimed es) where
   raised_push t x is one n =
       let none : claims_on es t ≡ 0 = claims_absent es t n in
       let same = claims_push_same es x (λ m. n (subst (λ u. u ∈ traits_of es) is m)) in
+      let traits : traits_of (es ++ (x ∷ [])) ≡ traits_of es ++ (t ∷ []) = map_push (λ (e : Entry). e.tr) es x ∙ ap (λ u. traits_of es ++ (u ∷ [])) is in
       record {
         more = ap (claims_on (es ++ (x ∷ []))) (sym is) ∙ same ∙ omega arith;
         others = λ u a. claims_push_other es x u (λ q. a (q ∙ is));
-        arrives = λ _. map_push (λ (e : Entry). e.tr) es x ∙ ap (λ u. traits_of es ++ (u ∷ [])) is;
+        arrives = λ _. traits;
         stays = λ h. absurd (omega arith);
+        distinct = subst Distinct (sym traits) (distinct_push (traits_of es) t d n);
       }
 
   -- at the place i stands the trait t
@@ -63,6 +65,7 @@ module _ (es : List Entry) (d : Distinct (traits_of es)) (k : Claimed es) where
         others = set_others;
         arrives = λ z. absurd (omega (arith, some_out));
         stays = λ _. set_traits;
+        distinct = subst Distinct (sym set_traits) d;
       }
 
       pub lowered_set : 1 < claims_at es i → x.claims ≡ claims_at es i - 1 → Lowered es t (set es i x)
@@ -71,6 +74,7 @@ module _ (es : List Entry) (d : Distinct (traits_of es)) (k : Claimed es) where
         others = set_others;
         leaves = λ o. absurd (omega (arith, claims_were));
         stays = λ _. set_traits;
+        distinct = subst Distinct (sym set_traits) d;
       }
 
     pub lowered_removed : claims_at es i ≤ 1 → Lowered es t (remove es i)
@@ -82,6 +86,7 @@ module _ (es : List Entry) (d : Distinct (traits_of es)) (k : Claimed es) where
           others = λ u a. claims_removed_other es i u (λ q. a (q ∙ is));
           leaves = λ _. traits;
           stays = λ h. absurd (omega (arith, claims_were));
+          distinct = subst Distinct (sym traits) (distinct_filter _ (traits_of es) d);
         }
 
   -- the others are listed as before

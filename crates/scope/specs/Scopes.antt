@@ -13,19 +13,21 @@ Answer = Result (Unit {0}) Refusal
 abbrev pub OthersStay : List Entry → ℕ → List Entry → Type 0
 OthersStay before t after = (u : ℕ) → (u ≢ t) → claims_on after u ≡ claims_on before u
 
--- One claim more on t. A trait that had none arrives last; else all keep their places.
+-- One claim more on t. A trait that had none arrives last; else all keep their places. No trait is listed twice.
 pub record Raised (before : List Entry) (t : ℕ) (after : List Entry) : Type 0 where
   pub more : claims_on after t ≡ claims_on before t + 1
   pub others : OthersStay before t after
   pub arrives : claims_on before t ≡ 0 → traits_of after ≡ traits_of before ++ (t ∷ [])
   pub stays : 0 < claims_on before t → traits_of after ≡ traits_of before
+  pub distinct : Distinct (traits_of after)
 
--- One claim less on t. With its last claim it leaves; the others keep their order.
+-- One claim less on t. With its last claim it leaves; the others keep their order. No trait is listed twice.
 pub record Lowered (before : List Entry) (t : ℕ) (after : List Entry) : Type 0 where
   pub fewer : claims_on after t + 1 ≡ claims_on before t
   pub others : OthersStay before t after
   pub leaves : claims_on before t ≡ 1 → traits_of after ≡ without t (traits_of before)
   pub stays : 1 < claims_on before t → traits_of after ≡ traits_of before
+  pub distinct : Distinct (traits_of after)
 
 -- why one claim more on t is refused
 abbrev pub Full : List Entry → ℕ → Refusal → Type 0
@@ -42,7 +44,6 @@ abbrev pub Releases : List Entry → ℕ → Answer → List Entry → Type 0
 Releases before t (Ok _) after = Lowered before t after
 Releases before t (Err e) after = (e ≡ NoClaimOut) × (claims_on before t ≡ 0) × (after ≡ before)
 
--- Two outcomes of the same call on the same entries are equal, where one of them has each trait once, as every scope has:
--- the relations leave nothing open.
+-- Two outcomes of the same call on the same scope are equal: the relations leave nothing open.
 abbrev pub Determined : (List Entry → ℕ → Answer → List Entry → Type 0) → Type 0
-Determined Call = (es fs gs : List Entry) (t : ℕ) (a b : Answer) → Distinct (traits_of fs) → Call es t a fs → Call es t b gs → (a ≡ b) × (fs ≡ gs)
+Determined Call = (es fs gs : List Entry) (t : ℕ) (a b : Answer) → Call es t a fs → Call es t b gs → (a ≡ b) × (fs ≡ gs)

@@ -1,9 +1,10 @@
 // Words that write numbers.
 ghost use Rattle.std.specs.Prelude.{◌≡◌, ◌+◌, ◌^◌, ◌<◌};
+ghost use Rattle.host.specs.Numbers.{Reads};
 ghost use Rattle.script.specs.Grammar.{decimal, number_at, numbers_from, exactly, texts, ReadAs, Listed};
 
 use super::faults::Fault;
-use host::UnknownNumber;
+use host::Numbered;
 
 // The number that a word writes, by decimal digits alone.
 fn number(word: &str) -> Option<u32>
@@ -44,21 +45,15 @@ pub(crate) fn numbers<const N: usize>(words: &[&str], first: usize) -> Result<[u
 }
 
 // The member of a closed set that has that number, or else the fault.
-pub(crate) fn read_as<T: TryFrom<u32, Error = UnknownNumber>>(
-    number: u32,
-    fault: Fault,
-) -> Result<T, Fault>
-    ensures { ReadAs T.try_from_gives fault number result }
+pub(crate) fn read_as<T: Numbered>(number: u32, fault: Fault) -> Result<T, Fault>
+    ensures { ReadAs (Reads T.code) fault number result }
 {
     T::try_from(number).map_err(|_| fault)
 }
 
 // The same of the number at that place of the line.
-pub(crate) fn listed<T: TryFrom<u32, Error = UnknownNumber>>(
-    number: u32,
-    place: usize,
-) -> Result<T, Fault>
-    ensures { Listed T.try_from_gives place number result }
+pub(crate) fn listed<T: Numbered>(number: u32, place: usize) -> Result<T, Fault>
+    ensures { Listed (Reads T.code) place number result }
 {
     read_as(number, Fault::OutsideList { word: place })
 }

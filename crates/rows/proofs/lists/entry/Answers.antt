@@ -5,8 +5,11 @@ use Rattle.std.proofs.lemmas.Iterator.{YieldsList-from_slice}
 use Rattle.std.proofs.lemmas.Iterator.Consumers.{YieldsList-at, nth_from_yields_List}
 use Rattle.std.proofs.lemmas.Iterator.Adapters.{option_map_id}
 use Rattle.rows.proofs.Fronts.{YieldsList-from_map_while}
-use Rattle.rows.proofs.Gathering.{entries_are}
+use Rattle.rows.proofs.Gathering.{entries_are, entry_past}
 use Rattle.rows.proofs.lists.entry.Goals as goal
+
+pub returns-then-place-ge-MOST_ENTRIES : goal.returns-then-place-ge-MOST_ENTRIES
+returns-then-place-ge-MOST_ENTRIES c = sym (entry_past _ c.args.place c.if-place-ge-MOST_ENTRIES.true)
 
 pub returns : goal.returns
 returns c =

@@ -1,0 +1,9 @@
+use Rattle.std.proofs.Common.{◌∙◌, rules}
+use borrow.Author.Tests.{tests}
+use Rattle.std.proofs.lemmas.Iterator.{YieldsList-from_slice}
+use Rattle.std.proofs.lemmas.Iterator.Search.{find_from_yields_List}
+use Rattle.rows.specs.Rows.{fits}
+use Rattle.rows.proofs.rows.first_row.Goals as goal
+
+pub returns : goal.returns
+returns c = c.copied.ensures ∙ find_from_yields_List (λ r. fits r c.args.key) _ _ c.find.result c.find.ensures.ran (YieldsList-from_slice c.args.rows.now cc) (λ x b q k. search (rules, tests))
