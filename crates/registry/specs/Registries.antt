@@ -16,6 +16,7 @@ use Rattle.script.specs.declared.commands.HostKind.{HostKind}
 use Rattle.script.specs.declared.commands.HostKind.TheVariants as kind
 use Rattle.registry.specs.AnyHosts.{any_meaning}
 use Rattle.registry.specs.declared.any.AnyHost.{AnyHost}
+use Rattle.registry.specs.declared.entries.Begun.{Begun}
 use Rattle.registry.specs.declared.entries.Declared.{Declared}
 use Rattle.registry.specs.declared.troubles.Trouble.{Trouble}
 use Rattle.registry.specs.declared.troubles.Trouble.TheVariants.{DeclaredTwice, NotDeclared, NoHostBegun, NoSuchTable, NotOpen, Memory}
@@ -37,6 +38,11 @@ known d = record { kind = d.kind; rows = vec_items d.rows; opened = d.opened }
 -- what is known of the hosts with these identifiers
 abbrev pub known_each : List (ℕ × Declared) → map.FinMap nat_cmp Known
 known_each es = map.from_entries (each (λ e. (e.0, known e.1)) es)
+
+-- the state of these hosts and the one begun last
+abbrev pub state_of : List (ℕ × Declared) → Option Begun → State
+state_of es None = record { hosts = known_each es; begun = None }
+state_of es (Some b) = record { hosts = map.insert (known_each es) b.id (known b.host); begun = Some b.id }
 
 abbrev pub no_hosts : State
 no_hosts = record { hosts = map.empty; begun = None }
@@ -98,6 +104,12 @@ meaning_of kind.Empty rs = empty_host
 abbrev pub Fresh : HostKind → List Row → Result AnyHost Refusal → Type 0
 Fresh k rs (Ok h) = any_meaning h ≡ meaning_of k rs
 Fresh k rs (Err e) = (k ≡ kind.Tabled) × (e ≡ UnlawfulSupertraits) × SupertraitLawFails (tabled rs)
+
+-- a host of that kind over these rows comes in the place of the one opened before, which stays where that is refused or memory is wanting
+abbrev pub Reopens : HostKind → List Row → Option AnyHost → Result (Result (Unit {0}) Refusal) Trouble → Option AnyHost → Type 0
+Reopens k rs o (Ok (Ok u)) o' = (h : AnyHost) × Fresh k rs (Ok h) × (o' ≡ Some h)
+Reopens k rs o (Ok (Err e)) o' = Fresh k rs (Err e) × (o' ≡ o)
+Reopens k rs o (Err t) o' = (t ≡ Memory) × (o' ≡ o)
 
 -- only a host that was declared can be opened
 abbrev pub open_wrong : State → ℕ → Option Trouble

@@ -14,23 +14,32 @@ pub(crate) struct Declared {
     pub(crate) opened: Option<AnyHost>,
 }
 
-// The hosts of a script by their identifiers, and which was begun last. Contracts see what is known of each, and no heap.
+// The host begun last.
+#[derive(Drop)]
+pub(crate) struct Begun {
+    pub(crate) id: u32,
+    pub(crate) host: Declared,
+}
+
+// The hosts of a script. Contracts see what is known of each by its identifier, and no heap.
 #[derive(Drop)]
 pub struct Registry {
     // Where the rows of hosts to come are kept.
     pub(crate) heap: Global,
+    // Those begun before the last, by their identifiers.
     pub(crate) hosts: BTreeMap<u32, Declared>,
-    pub(crate) begun: Option<u32>,
+    // It stands apart until another begins, so that a row is given to it without a look-up.
+    pub(crate) begun: Option<Begun>,
 }
 
 impl Model for Registry {
     ghost use Rattle.std.specs.Coded.{codes};
     ghost use Rattle.std.specs.FinMap as map;
-    ghost use Rattle.registry.specs.Registries.{State, known_each};
+    ghost use Rattle.registry.specs.Registries.{State, state_of};
 
     ghost Value = { State };
 
     ghost coded = { Prim.hlevel (map.code, codes) };
 
-    ghost view = { λ a. record { hosts = known_each a.hosts.entries; begun = a.begun } };
+    ghost view = { λ a. state_of a.hosts.entries a.begun };
 }
